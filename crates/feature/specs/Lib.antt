@@ -1,0 +1,5 @@
+pub mod Distance
+pub mod Fade
+pub mod Feature
+pub mod Turns
+pub mod Within

@@ -1,0 +1,7 @@
+pub mod Tests
+pub mod Steps
+pub mod PowerBits
+pub mod Least
+pub mod Digits
+pub mod CeilCases
+pub mod CutCases

@@ -1,0 +1,69 @@
+use mathlib.Core.Path.{_≡_, refl, sym, ap, _∙_, subst}
+use mathlib.Core.Bool.{Bool, true, false, cond, _&&_}
+use native.Mathlib.Omega.{arith}
+use lib.Dec.{T, le→leb}
+use lib.Ieee.{Float, binary64, ofBits, inFloat, le, div}
+use borrow.Author.Needs.{needs}
+use Rattle.float.specs.Rounded.{one}
+use Rattle.float.specs.Order.{isFinite}
+use Rattle.float.specs.Ln.{lnOf, lnBy, exponentOf, plusPower}
+use Rattle.float.proofs.logarithm.ln.Statement.{statement}
+use Rattle.float.proofs.logarithm.ln.Tie as tie
+
+-- ---- the definition by what its two tests say
+ln-case : (v : Float) (a b : Bool) → le one v ≡ a → isFinite v ≡ b → lnOf v ≡ cond (a && b) (lnBy (exponentOf v) (div binary64 v (plusPower (exponentOf v)))) v
+unfolding lnOf
+ln-case v a b p q =
+    ap (λ (t : Bool). cond t (lnBy (exponentOf v) (div binary64 v (plusPower (exponentOf v)))) v)
+    (ap (λ (t : Bool). t && isFinite v) p ∙ ap (λ (t : Bool). a && t) q)
+
+-- ---- what the tests tell
+at-least : (c : tie.Then2) → le one (c .before .before .before .args .v) ≡ true
+unfolding ofBits
+at-least c = c .before .before .if1 .taken
+
+is-finite : (c : tie.Then2) → isFinite (c .before .before .before .args .v) ≡ true
+is-finite c = sym (c .before .is-finite .ensures) ∙ c .if2 .taken
+
+is-finite-requires : tie.Need-is-finite-requires
+is-finite-requires c κs = search needs
+
+exponent-requires : tie.Need-exponent-requires
+exponent-requires c κs = (subst T (sym (at-least c)) tt, subst T (sym (is-finite c)) tt)
+
+power-up-requires : tie.Need-power-up-requires
+power-up-requires c κs = c .exponent .ensures .1
+
+int-to-float-result : tie.Need-int-to-float-result
+unfolding inFloat
+int-to-float-result c = le→leb (c .before .before .exponent .result) 0x20_0000_0000_0000 (omega (arith, c .before .before .exponent .ensures .1))
+
+log-series-requires : tie.Need-log-series-requires
+log-series-requires c κs = search needs
+
+returns : tie.Need-returns
+unfolding lnBy ofBits
+returns c =
+    let x = c .before .before .before in
+    rw (c .log-series .ensures, c .before .before .power-up .ensures, x .exponent .ensures .0) (sym (ln-case (x .before .before .before .before .args .v) true true (at-least (x .before)) (is-finite (x .before))))
+
+returns-2 : tie.Need-returns-2
+unfolding ofBits
+returns-2 c = sym (ln-case (c .before .before .before .args .v) true false (c .before .before .if1 .taken) (sym (c .before .is-finite .ensures) ∙ c .if2 .left))
+
+returns-3 : tie.Need-returns-3
+unfolding ofBits
+returns-3 c = sym (ln-case (c .before .args .v) false (isFinite (c .before .args .v)) (c .if1 .left) refl)
+
+pub ln-spec : {M : Type 1} → statement M
+ln-spec =
+    tie.close
+    (tie.spec
+    is-finite-requires
+    exponent-requires
+    power-up-requires
+    int-to-float-result
+    log-series-requires
+    returns
+    returns-2
+    returns-3)

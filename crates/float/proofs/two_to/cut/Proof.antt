@@ -1,0 +1,39 @@
+use mathlib.Core.Path.{sym, subst}
+use borrow.Author.Needs.{needs}
+use lib.Dec.{T, le→leb}
+use lib.Ieee.{ofBits, neg, inFloat}
+use Rattle.float.proofs.CutCases.{Cases, cases, shiftOf}
+use Rattle.float.proofs.two_to.cut.Statement.{statement}
+use Rattle.float.proofs.two_to.cut.Tie as tie
+
+known : (c : tie.Start) → Cases (c .args .y)
+known c = cases (c .args .y) (subst T (sym (c .good .0 .1)) tt) (c .pre)
+
+float-to-bits-bits : tie.Need-float-to-bits-bits
+float-to-bits-bits c = known c .no-nan
+
+returns : tie.Need-returns
+unfolding ofBits neg
+returns c = sym (known (c .before) .below (c .if1 .taken))
+
+add-digits : tie.Need-add-digits
+add-digits c = search needs
+
+sub-result : tie.Need-sub-result
+sub-result c = search needs
+
+shr-result : tie.Need-shr-result
+shr-result c = search needs
+
+int-to-float-result : tie.Need-int-to-float-result
+unfolding inFloat
+int-to-float-result c = le→leb (shiftOf (c .before .before .before .args .y)) 0x20_0000_0000_0000 (known (c .before .before .before) .within (c .before .before .if1 .left) (c .before .if2 .taken) .0)
+
+returns-2 : tie.Need-returns-2
+returns-2 c = sym (known (c .before .before .before) .within (c .before .before .if1 .left) (c .before .if2 .taken) .1)
+
+returns-3 : tie.Need-returns-3
+returns-3 c = sym (known (c .before .before) .beyond (c .if2 .left))
+
+pub cut-spec : {M : Type 1} → statement M
+cut-spec = tie.close (tie.spec float-to-bits-bits returns add-digits sub-result shr-result int-to-float-result returns-2 returns-3)

@@ -1,0 +1,12 @@
+pub mod Rounded
+pub mod Order
+pub mod Cut
+pub mod TwoTo
+pub mod Ln
+pub mod Ceil
+pub mod Opened
+pub mod Compare
+pub mod Ordered
+pub mod Whole
+pub mod Between
+pub mod Computed

@@ -1,0 +1,34 @@
+-- Document 01: "Arithmetic is binary64, each operation rounded once, in the order the Rust writes it." Definitions only.
+use Prim.Native.Nat.{ℕ}
+use lib.IntN.{pos}
+use lib.Ieee.{Float, binary64, add, sub, mul, div, ofInt, ofBits}
+
+infixl 60 _⊕_
+infixl 60 _⊖_
+infixl 70 _⊗_
+infixl 70 _⊘_
+abbrev pub _⊕_ : Float → Float → Float
+x ⊕ y = add binary64 x y
+
+abbrev pub _⊖_ : Float → Float → Float
+x ⊖ y = sub binary64 x y
+
+abbrev pub _⊗_ : Float → Float → Float
+x ⊗ y = mul binary64 x y
+
+abbrev pub _⊘_ : Float → Float → Float
+x ⊘ y = div binary64 x y
+
+-- 0, 1 and 2, by the bits that the code's literals have
+abbrev pub nought : Float
+nought = ofBits binary64 0
+
+abbrev pub one : Float
+one = ofBits binary64 0x3ff0_0000_0000_0000
+
+abbrev pub two : Float
+two = ofBits binary64 0x4000_0000_0000_0000
+
+-- the number n as a double
+abbrev pub whole : ℕ → Float
+whole n = ofInt binary64 (pos n)

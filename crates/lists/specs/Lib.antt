@@ -1,0 +1,6 @@
+pub mod Retain
+pub mod Rest
+pub mod Loops
+pub mod Shift
+pub mod Maps
+pub mod Sizes
