@@ -3,8 +3,9 @@ use mathlib.Core.Path.{_≡_, refl, sym, ap}
 use Prim.Native.Nat.{ℕ, _*_, _/_, _≤_, _<_}
 use native.Mathlib.Nat.{add-comm, lt-of-not-le, not-le-of-lt}
 use mathlib.Core.Bool.{Bool, true, false, not, true≢false}
-use lib.Dec.{T, ltb, ltb→lt, lt→ltb}
-use lib.Ieee.{Float, nan, inf, fin, up, down, lt, neg}
+use lib.Dec.{T, ltb, ltb→lt, lt→ltb, eqb, eqb-refl}
+use lib.Ieee.{Float, nan, inf, fin, up, down, lt, ne, neg, isNan}
+use lib.Ieee.Bits.{is-true}
 use lib.Ieee.Fits.{down-pos}
 use lib.Ieee.Exact.{HasValue}
 use lib.Ieee.Order.{transfer}
@@ -55,3 +56,12 @@ lt-values (fin false m e) (fin false n g) a c b d C D p q =
     ltb-same (m * up e * down g) (n * up g * down e) (a * d) (b * c)
     (λ h. transfer (n * up g) (m * up e) (down g) (down e) b a d c D C (q .1) (p .1) h)
     (λ h. transfer b a d c (n * up g) (m * up e) (down g) (down e) (down-pos g) (down-pos e) (sym (q .1)) (sym (p .1)) h)
+
+-- the code's test of a NaN
+pub nan-test : (x : Float) → ne x x ≡ isNan x
+unfolding ne isNan
+nan-test nan = refl
+nan-test (inf true) = refl
+nan-test (inf false) = refl
+nan-test (fin true m e) = rw (is-true (eqb (m * up e * down e) (m * up e * down e)) (eqb-refl (m * up e * down e)))
+nan-test (fin false m e) = rw (is-true (eqb (m * up e * down e) (m * up e * down e)) (eqb-refl (m * up e * down e)))

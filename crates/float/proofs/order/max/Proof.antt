@@ -1,4 +1,4 @@
-use Rattle.float.proofs.Tests.{nan-test}
+use Rattle.float.specs.Compare.{nan-test}
 use Rattle.float.proofs.order.max.Statement.{statement}
 use Rattle.float.proofs.order.max.Tie as tie
 
