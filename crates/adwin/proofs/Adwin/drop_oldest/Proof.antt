@@ -1,0 +1,87 @@
+use Rattle.adwin.proofs.Gap.{Closing, closing-starts, closing-steps}
+use Rattle.adwin.proofs.Drops.{dropped-is}
+use Rattle.adwin.specs.Settings.{places}
+use lib.ListN.{length, length-map}
+use native.Mathlib.Omega.{arith}
+use mathlib.Core.Path.{_≡_, sym, _∙_}
+use Prim.Native.Nat.{_-_}
+use borrow.Author.Needs.{needs}
+use Rattle.adwin.proofs.Adwin.drop_oldest.Statement.{statement}
+use Rattle.adwin.proofs.Adwin.drop_oldest.Tie as tie
+
+abbrev Inv-loop : tie.InvT-loop
+Inv-loop self₀ gone variance m q₀ self q = Closing self₀ 0 m self q
+
+abbrev μ-loop : tie.MeasureT-loop
+μ-loop self₀ gone variance m q₀ self q = m - q
+
+buckets-room : (c : tie.Start Inv-loop μ-loop) → length (c .args .t1 .buckets) ≡ places
+buckets-room c = sym (length-map (c .args .t1 .buckets) _) ∙ c .good .0 .1 .1 .1 .0 .1 .0 .1
+
+classes-room : (c : tie.Start Inv-loop μ-loop) → length (c .args .t1 .classes) ≡ places
+classes-room c = sym (length-map (c .args .t1 .classes) _) ∙ c .good .0 .1 .1 .1 .1 .0 .1 .0 .1
+
+element-copy-out-gone : tie.Need-element-copy-out-gone Inv-loop μ-loop
+element-copy-out-gone c = search needs
+
+variance-without-requires : tie.Need-variance-without-requires Inv-loop μ-loop
+variance-without-requires c κs = search needs
+
+sub-m : tie.Need-sub-m Inv-loop μ-loop
+sub-m c = search needs
+
+loop-holds : tie.Need-loop-holds Inv-loop μ-loop
+loop-holds c = closing-starts _ _ _ (buckets-room (c .before .before)) (classes-room (c .before .before)) (omega arith) (c .before .before .pre .1) (omega arith)
+
+add-p : tie.Need-add-p Inv-loop μ-loop
+add-p c = search needs
+
+mul-b : tie.Need-mul-b Inv-loop μ-loop
+mul-b c = search needs
+
+element-copy-out-b : tie.Need-element-copy-out-b Inv-loop μ-loop
+element-copy-out-b c = search needs
+
+element-copy-out-c : tie.Need-element-copy-out-c Inv-loop μ-loop
+element-copy-out-c c = search needs
+
+mul-b-2 : tie.Need-mul-b-2 Inv-loop μ-loop
+mul-b-2 c = search needs
+
+element-set-from-b : tie.Need-element-set-from-b Inv-loop μ-loop
+element-set-from-b c = search needs
+
+element-write-self : tie.Need-element-write-self Inv-loop μ-loop
+element-write-self c = search needs
+
+loop-less : tie.Need-loop-less Inv-loop μ-loop
+loop-less c = search needs
+
+loop-again : tie.Need-loop-again Inv-loop μ-loop
+loop-again c = closing-steps _ _ _ _ _ _ (c .before .before .before .loop .inv) (c .before .before .loop-test .taken)
+
+returns : tie.Need-returns Inv-loop μ-loop
+returns c =
+    let e = c .before .before .before .before .before .before in
+    (omega arith, dropped-is (e .args .t1) _ _ _ _ _ (buckets-room e) (classes-room e) (e .pre .0) (c .before .before .before .before .variance-without .ensures) (c .before .before .before .loop .inv) (c .before .before .loop-test .left))
+
+pub drop-oldest-spec : {M : Type 1} → statement M
+drop-oldest-spec =
+    tie.close
+    (tie.spec
+    Inv-loop
+    μ-loop
+    element-copy-out-gone
+    variance-without-requires
+    sub-m
+    loop-holds
+    add-p
+    mul-b
+    element-copy-out-b
+    element-copy-out-c
+    mul-b-2
+    element-set-from-b
+    element-write-self
+    loop-less
+    loop-again
+    returns)

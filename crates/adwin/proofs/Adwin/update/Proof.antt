@@ -1,0 +1,112 @@
+use Rattle.adwin.proofs.Updates.{Pushed, unsearched, searched}
+use Rattle.adwin.proofs.Room.{room-is, has-place}
+use Rattle.adwin.specs.Cases.{not-finite, no-room, room-taken}
+use Rattle.adwin.specs.Settings.{limit, places}
+use lib.Dec.{ltb}
+use Rattle.adwin.specs.Buckets.{pushOf}
+use Rattle.adwin.specs.Window.{Window, Outcome, hasRoom, shrunk}
+use Rattle.adwin.specs.View.{heldOf, view}
+use Rattle.adwin.specs.Inside.{withHeld}
+use Rattle.adwin.specs.declared.bucket.Bucket.{Bucket}
+use Rattle.float.specs.Order.{isFinite}
+use borrow.Author.Tests.{not-true, not-false}
+use lib.ListN.{length-map}
+use native.Mathlib.Omega.{arith}
+use mathlib.Core.Path.{_≡_, refl, sym, ap, _∙_}
+use mathlib.Core.Bool.{true, false, _&&_, true≢false}
+use Prim.Native.Nat.{ℕ}
+use borrow.Author.Needs.{needs}
+use borrow.Author.Needs.{needs}
+use Rattle.adwin.proofs.Adwin.update.Statement.{statement}
+use Rattle.adwin.proofs.Adwin.update.Tie as tie
+
+room-told : (c : tie.Start) → (ltb (c .args .self .taken) limit && ltb (c .args .self .count) places) ≡ hasRoom (view (c .args .self))
+room-told c =
+    let a = c .args .self in
+    room-is a (sym (length-map (a .buckets) _) ∙ c .good .0 .1 .1 .1 .0 .1 .0 .1) (sym (length-map (a .classes) _) ∙ c .good .0 .1 .1 .1 .1 .0 .1 .0 .1)
+
+pushed : (c : tie.After-push-bucket) → Pushed (c .before .before .before .before .before .before .before .args .self) (c .before .before .before .before .before .before .before .args .value) (c .push-bucket .result) (c .before .before .variance-with .result)
+pushed c =
+    let r = c .before .before .before .before in
+    let f = r .before .before in
+    let a = f .before .args .self in
+    record {
+      finite = sym (f .is-finite .ensures) ∙ not-false _ (r .before .if1 .left);
+      room = sym (room-told (f .before)) ∙ sym (r .has-room .ensures) ∙ not-false _ (c .before .before .before .if2 .left);
+      held = c .push-bucket .ensures .1 ∙ ap (λ (b : Bucket). withHeld (view a) (pushOf (heldOf a) b)) (c .before .single .ensures);
+      variance = c .before .before .variance-with .ensures;
+    }
+
+is-finite-requires : tie.Need-is-finite-requires
+is-finite-requires c κs = search needs
+
+returns : tie.Need-returns
+returns c =
+    let f = c .before in
+    let a = f .before .args in
+    (not-finite (view (a .self)) (a .value) (sym (f .is-finite .ensures) ∙ not-true _ (c .if1 .taken)), ((λ q. refl), (λ q. refl)))
+
+has-room-requires : tie.Need-has-room-requires
+has-room-requires c κs = search needs
+
+returns-2 : tie.Need-returns-2
+returns-2 c =
+    let f = c .before .before .before in
+    let a = f .before .args in
+    let p : isFinite (a .value) ≡ true = sym (f .is-finite .ensures) ∙ not-false _ (c .before .before .if1 .left) in
+    let h : hasRoom (view (a .self)) ≡ false = sym (room-told (f .before)) ∙ sym (c .before .has-room .ensures) ∙ not-true _ (c .if2 .taken) in
+    (no-room (view (a .self)) (a .value) p h, ((λ q. refl), (λ q. refl)))
+
+variance-with-requires : tie.Need-variance-with-requires
+variance-with-requires c κs = search needs
+
+single-requires : tie.Need-single-requires
+single-requires c κs = search needs
+
+push-bucket-requires : tie.Need-push-bucket-requires
+push-bucket-requires c κs =
+    let a = c .before .before .before .before .before .before .args .self in
+    has-place (a .taken) (a .count) (sym (c .before .before .before .has-room .ensures) ∙ not-false _ (c .before .before .if2 .left))
+
+add-w : tie.Need-add-w
+add-w c =
+    let p = pushed (c .before .before .before) in
+    omega (arith, ap (λ (u : Window). u .taken) (p .held), room-taken (view (c .before .before .before .before .before .before .before .before .before .before .args .self)) (p .room))
+
+sub-if3 : tie.Need-sub-if3
+sub-if3 c = search needs
+
+add-w-2 : tie.Need-add-w-2
+add-w-2 c = search needs
+
+returns-3 : tie.Need-returns-3
+returns-3 c =
+    let p = pushed (c .before .before .before .before .before .before) in
+    (unsearched _ _ _ _ p (c .before .if3 .taken), ((λ q. absurd (let z : _≡_ {A = ℕ} 0 8 = q in omega arith)), (λ q. absurd (true≢false (sym (p .finite) ∙ q)))))
+
+shrink-requires : tie.Need-shrink-requires
+shrink-requires c κs = search needs
+
+returns-4 : tie.Need-returns-4
+unfolding shrunk
+returns-4 c =
+    let p = pushed (c .before .before .before .before .before .before) in
+    (c .shrink .ensures ∙ searched _ _ _ _ p (c .before .if3 .left), ((λ q. absurd (let z : _≡_ {A = ℕ} 8 0 = sym q ∙ ap (λ (o : Outcome). o .refusal) (c .shrink .ensures) in omega arith)), (λ q. absurd (true≢false (sym (p .finite) ∙ q)))))
+
+pub update-spec : {M : Type 1} → statement M
+update-spec =
+    tie.close
+    (tie.spec
+    is-finite-requires
+    returns
+    has-room-requires
+    returns-2
+    variance-with-requires
+    single-requires
+    push-bucket-requires
+    add-w
+    sub-if3
+    add-w-2
+    returns-3
+    shrink-requires
+    returns-4)

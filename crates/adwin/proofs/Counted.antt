@@ -1,0 +1,46 @@
+-- A double as a `u64`, cut towards zero, by the cases of `width`. Assumes nothing.
+use Prim.Native.Nat.{_+_, _*_, _≤_}
+use mathlib.Core.Path.{_≡_, refl, sym, subst}
+use mathlib.Core.Bool.{true, false, true≢false}
+use native.Mathlib.Omega.{arith}
+use native.Mathlib.Nat.{le-div-iff-mul-le, min-eq-right, zero-div}
+use lib.IntN.{pos}
+use lib.Dec.{T, lt→ltb}
+use lib.Ieee.{Float, nan, inf, fin, binary64, up, down, lt, toUnsigned, ofBits}
+use lib.Ieee.Fits.{down-pos}
+use borrow.Author.Tests.{ltb-false}
+
+abbrev top : Float
+top = ofBits binary64 0x43f0_0000_0000_0000
+
+pub none : (x : Float) → lt (ofBits binary64 0) x ≡ false → 0 ≡ toUnsigned 64 x
+unfolding lt ofBits toUnsigned
+none nan h = refl
+none (inf true) h = refl
+none (inf false) h = absurd (true≢false h)
+none (fin true m e) h = refl
+none (fin false m e) h =
+    let z : m * up e ≡ 0 = omega (arith, ltb-false (0 * 1 * down e) (m * up e * 1) h) in
+    rw (z, zero-div)
+
+pub above-minus-one : (x : Float) → lt (ofBits binary64 0) x ≡ true → T (lt (fin true 1 (pos 0)) x)
+unfolding lt ofBits
+above-minus-one nan h = absurd (true≢false (sym h))
+above-minus-one (inf true) h = absurd (true≢false (sym h))
+above-minus-one (inf false) h = tt
+above-minus-one (fin true m e) h = absurd (true≢false (sym h))
+above-minus-one (fin false m e) h = lt→ltb 0 (1 * down e + m * up e * 1) (omega (arith, down-pos e))
+
+pub below-top : (x : Float) → lt x top ≡ true → T (lt x (fin false 1 (pos 64)))
+unfolding ofBits
+below-top x h = subst T (sym h) tt
+
+pub all-ones : (x : Float) → lt (ofBits binary64 0) x ≡ true → lt x top ≡ false → 18446744073709551615 ≡ toUnsigned 64 x
+unfolding lt ofBits toUnsigned
+all-ones nan h g = absurd (true≢false (sym h))
+all-ones (inf true) h g = absurd (true≢false (sym h))
+all-ones (inf false) h g = refl
+all-ones (fin true m e) h g = absurd (true≢false (sym h))
+all-ones (fin false m e) h g =
+    let k : 18446744073709551615 * down e ≤ m * up e = omega (arith, ltb-false (m * up e * 1) (18446744073709551616 * down e) g) in
+    sym (min-eq-right (le-div-iff-mul-le (down-pos e) .1 k))

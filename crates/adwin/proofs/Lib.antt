@@ -1,0 +1,9 @@
+pub mod Classes
+pub mod Gap
+pub mod Carries
+pub mod Walk
+pub mod Counted
+pub mod Steps
+pub mod Drops
+pub mod Room
+pub mod Updates

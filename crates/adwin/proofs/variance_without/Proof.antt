@@ -1,0 +1,16 @@
+use borrow.Author.Needs.{needs}
+use borrow.Author.Needs.{needs}
+use Rattle.adwin.proofs.variance_without.Statement.{statement}
+use Rattle.adwin.proofs.variance_without.Tie as tie
+
+max-requires : tie.Need-max-requires
+max-requires c κs = search needs
+
+returns : tie.Need-returns
+returns c = rw (c .before .before .before .before .before .before .if1 .taken) (c .max .ensures)
+
+returns-2 : tie.Need-returns-2
+returns-2 c = rw (c .if1 .left)
+
+pub variance-without-spec : {M : Type 1} → statement M
+variance-without-spec = tie.close (tie.spec max-requires returns returns-2)

@@ -1,0 +1,57 @@
+-- The window told from the list of values that it was given. Definitions only.
+use Prim.Native.Nat.{ℕ, _+_, _^_, _≤_}
+use mathlib.Core.Path.{_≡_}
+use mathlib.Core.Bool.{cond, _&&_}
+use mathlib.Core.List.{List, [], _∷_, _++_}
+use lib.Dec.{eqb}
+use lib.Ieee.{Float}
+use Rattle.float.specs.Rounded.{whole}
+use Rattle.float.specs.Order.{isFinite}
+use Rattle.adwin.specs.Buckets.{Classed}
+use Rattle.adwin.specs.Cut.{searchOf}
+use Rattle.adwin.specs.Window.{Window, hasRoom, due, grown, updateOf}
+
+-- the window after a list of values
+unfoldable pub runOf : Window → List Float → Window
+unfolding updateOf
+runOf w [] = w
+runOf w (x ∷ xs) = runOf (updateOf w x .window) xs
+
+-- how many of the values are finite
+unfoldable pub finiteIn : List Float → ℕ
+finiteIn [] = 0
+finiteIn (x ∷ xs) = cond (isFinite x) 1 0 + finiteIn xs
+
+-- the buckets that an update's cut search drops, and those that the searches of a list of updates drop
+unfoldable pub droppedBy : Window → Float → List Classed
+unfolding grown searchOf
+droppedBy w x = cond (isFinite x && (hasRoom w && due w)) (searchOf (w .delta) (grown w x .sums) (grown w x .held) .dropped) []
+
+unfoldable pub droppedIn : Window → List Float → List Classed
+unfolding droppedBy updateOf
+droppedIn w [] = []
+droppedIn w (x ∷ xs) = droppedBy w x ++ droppedIn (updateOf w x .window) xs
+
+-- how many values a list of buckets stands for: 2^class each
+abbrev pub valuesIn : List Classed → ℕ
+valuesIn [] = 0
+valuesIn (b ∷ l) = 2 ^ b .class + valuesIn l
+
+-- each size is 2^class, exactly
+abbrev pub Sized : List Classed → Type 0
+Sized [] = Unit {0}
+Sized (b ∷ l) = (b .bucket .size ≡ whole (2 ^ b .class)) × Sized l
+
+-- how many buckets have the class c
+abbrev pub countOf : ℕ → List Classed → ℕ
+countOf c [] = 0
+countOf c (b ∷ l) = cond (eqb (b .class) c) 1 0 + countOf c l
+
+-- no bucket has a higher class than an older one
+abbrev pub Below : ℕ → List Classed → Type 0
+Below c [] = Unit {0}
+Below c (b ∷ l) = (b .class ≤ c) × Below c l
+
+abbrev pub NeverRising : List Classed → Type 0
+NeverRising [] = Unit {0}
+NeverRising (b ∷ l) = Below (b .class) l × NeverRising l

@@ -1,0 +1,96 @@
+-- The window's laws, for every list of values from a fresh window. Document 01, Drift: "All these are told from the history."
+use Prim.Native.Nat.{ℕ, _+_, _-_, _*_, _/_, _%_, _^_, _≤_, _<_, min}
+use mathlib.Core.Path.{_≡_, ap, _∙_}
+use mathlib.Core.Bool.{true, false, not, true≢false}
+use mathlib.Core.List.{List}
+use native.Mathlib.Omega.{arith}
+use native.Mathlib.Nat.{min-eq-left, mul-div-cancel}
+use lib.Ieee.{Float, nan, inf, fin, up, down, toUnsigned}
+use lib.Ieee.Fits.{down-pos}
+use lib.ListN.{length}
+use borrow.Author.Tests.{lt-ltb, le-ltb, lt-leb, le-leb}
+use Rattle.float.specs.Rounded.{whole}
+use Rattle.float.specs.Order.{isFinite}
+use Rattle.float.specs.Whole.{Is, whole-is}
+use Rattle.adwin.specs.Settings.{cap, interval, limit, places}
+use Rattle.adwin.specs.Window.{Window, quiet, full, grown, shrunk, updateOf, isEmpty, newOf, widthOf}
+use Rattle.adwin.specs.History.{runOf, finiteIn, droppedBy, droppedIn, valuesIn, Sized, countOf, NeverRising}
+use Rattle.adwin.specs.Cases.{not-finite, no-room, not-due, is-due}
+use Rattle.adwin.specs.Stacked.{at-most-cap, never-rises}
+use Rattle.adwin.specs.Merging.{small}
+use Rattle.adwin.specs.Sound.{Sound, sound-new, place-left, room-is, step, Run, run}
+
+-- the window w after the values xs
+pub record Told (delta : Float) (xs : List Float) (w : Window) : Type 0 where
+  -- every finite value is taken, up to 65,535
+  pub taken : w .taken ≡ min (finiteIn xs) limit
+  -- each size is 2^class, exactly, and they sum to the width
+  pub sized : Sized (w .held)
+  pub sums : w .sums .width ≡ whole (valuesIn (w .held))
+  -- "Over 6 in a class, the two oldest merge into the newest of the next."
+  pub neverRising : NeverRising (w .held)
+  pub atMostSix : (c : ℕ) → countOf c (w .held) ≤ cap
+  -- the places for buckets are never full
+  pub neverFull : length (w .held) < places
+  -- "The width equals values taken less the sizes dropped."
+  pub dropped : Sized (droppedIn (newOf delta) xs)
+  pub width : widthOf (w .sums) + valuesIn (droppedIn (newOf delta) xs) ≡ w .taken
+
+-- the update by x of the window w, after the values xs
+pub record Next (xs : List Float) (w : Window) (x : Float) : Type 0 where
+  -- "a value that isn't finite is no alarm and changes nothing"
+  pub ignored : isFinite x ≡ false → quiet w ≡ updateOf w x
+  -- "have fewer than 65,535 finite values been taken? No: 8"
+  pub refused : isFinite x ≡ true → limit ≤ finiteIn xs → full w ≡ updateOf w x
+  -- "On every 32nd finite value the cut search", and on no other
+  pub searched : isFinite x ≡ true → finiteIn xs < limit → (finiteIn xs + 1) % interval ≡ 0 → shrunk (grown w x) ≡ updateOf w x
+  pub unsearched : isFinite x ≡ true → finiteIn xs < limit → ((finiteIn xs + 1) % interval ≡ 0 → ⊥) → quiet (grown w x) ≡ updateOf w x
+  -- "An update rings the alarm exactly when its cut search drops a bucket"
+  pub rings : updateOf w x .alarm ≡ not (isEmpty (droppedBy w x))
+
+-- a whole double as a number
+counts : (x : Float) (n : ℕ) → Is x n → n ≤ limit → toUnsigned 64 x ≡ n
+unfolding toUnsigned
+counts nan n p h = absurd p
+counts (inf t) n p h = absurd p
+counts (fin true m e) n p h = absurd (true≢false (p .0))
+counts (fin false m e) n p h =
+    let q : m * up e ≡ n * down e = omega (arith, p .1) in
+    let r : m * up e / down e ≡ n = ap (λ (i : ℕ). i / down e) q ∙ mul-div-cancel n (down-pos e) in
+    ap (λ (i : ℕ). min i (2 ^ 64 - 1)) r ∙ min-eq-left (omega arith)
+
+ran : (delta : Float) (xs : List Float) → Run (newOf delta) xs (runOf (newOf delta) xs)
+ran delta xs = run (newOf delta) xs (sound-new delta)
+
+pub told-from-history : (delta : Float) (xs : List Float) → Told delta xs (runOf (newOf delta) xs)
+told-from-history delta xs =
+    let w = runOf (newOf delta) xs in
+    let r : Run (newOf delta) xs w = ran delta xs in
+    let s : Sound w = r .sound in
+    let n = valuesIn (w .held) in
+    let b : n ≤ limit = omega (arith, s .fits, s .within) in
+    let c : widthOf (w .sums) ≡ n = ap (toUnsigned 64) (s .width) ∙ counts (whole n) n (whole-is n (small n b)) b in
+    record {
+      taken = omega (arith, r .taken);
+      sized = s .sized;
+      sums = s .width;
+      neverRising = never-rises (w .held) (s .stacked);
+      atMostSix = at-most-cap (w .held) (s .stacked);
+      neverFull = place-left w s;
+      dropped = r .sized;
+      width = omega (arith, r .values);
+    }
+
+pub next-update : (delta : Float) (xs : List Float) (x : Float) → Next xs (runOf (newOf delta) xs) x
+next-update delta xs x =
+    let w = runOf (newOf delta) xs in
+    let r : Run (newOf delta) xs w = ran delta xs in
+    let s : Sound w = r .sound in
+    let t : w .taken ≡ min (0 + finiteIn xs) limit = r .taken in
+    record {
+      ignored = not-finite w x;
+      refused = λ e h. no-room w x e (room-is w s ∙ le-ltb (w .taken) limit (omega arith));
+      searched = λ e h i. is-due w x e (room-is w s ∙ lt-ltb (w .taken) limit (omega arith)) (le-leb interval (w .sinceCheck + 1) (omega (arith, s .since)));
+      unsearched = λ e h i. not-due w x e (room-is w s ∙ lt-ltb (w .taken) limit (omega arith)) (lt-leb interval (w .sinceCheck + 1) (omega (arith, s .since)));
+      rings = step w x s .rings;
+    }

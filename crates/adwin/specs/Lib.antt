@@ -1,0 +1,15 @@
+pub mod Settings
+pub mod Buckets
+pub mod Cut
+pub mod Window
+pub mod View
+pub mod Inside
+pub mod History
+pub mod Cases
+pub mod Stacked
+pub mod Fewest
+pub mod Merging
+pub mod Dropping
+pub mod Sound
+pub mod Laws
+pub mod Readings

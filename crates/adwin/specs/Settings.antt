@@ -1,0 +1,27 @@
+-- The figures of the window. Document 01, Drift: "The cap 6, smallest side 5 and check interval 32 belong to the window."
+use Prim.Native.Nat.{ℕ}
+use lib.Ieee.{Float, binary64, ofBits}
+
+abbrev pub cap : ℕ
+cap = 6
+
+abbrev pub side : Float
+side = ofBits binary64 0x4014_0000_0000_0000
+
+abbrev pub interval : ℕ
+interval = 32
+
+-- Document 01, Questions: "have fewer than 65,535 finite values been taken?"
+abbrev pub limit : ℕ
+limit = 65535
+
+-- The places for buckets. No window that started empty fills them (`Laws.antt`).
+abbrev pub places : ℕ
+places = 81
+
+-- `Adwin::new` "clamps delta to between 2^−1022 and 1 − 2^−52"
+abbrev pub least : Float
+least = ofBits binary64 0x0010_0000_0000_0000
+
+abbrev pub most : Float
+most = ofBits binary64 0x3fef_ffff_ffff_fffe

@@ -1,0 +1,184 @@
+-- Weights, densities, their ticks and the means' lengths, through every insert of a DBSTREAM.
+use Prim.Native.Nat.{ℕ, _+_, _<_}
+use mathlib.Core.Path.{_≡_, refl, sym, ap, ap₂, _∙_, subst}
+use mathlib.Core.Logic.{_⊎_, inl, inr, ⊎-elim}
+use mathlib.Core.Bool.{Bool, true, false, _&&_, cond, true≢false}
+use mathlib.Core.List.{List, [], _∷_, _++_, map, foldl}
+use native.Mathlib.Omega.{arith}
+use lib.Dec.{eqb}
+use lib.ListN.{length, length-replicate}
+use lib.Ieee.{Float}
+use borrow.Author.Tests.{lt-ltb, eqb-true}
+use Rattle.float.specs.Rounded.{nought}
+use Rattle.feature.specs.Feature.{empty}
+use Rattle.drift.specs.declared.Nearest.{Nearest}
+use Rattle.model.specs.declared.micro.MicroId.{MicroId}
+use Rattle.model.specs.declared.micro.DbMicro.{DbMicro}
+use Rattle.model.specs.declared.link.Link.{Link}
+use Rattle.model.specs.Outcome.{Outcome}
+use Rattle.model.specs.Run.{oneIfDone, acceptedIn}
+use Rattle.model.specs.DbState.{Settings, State, fresh}
+use Rattle.model.specs.DbInsert.{idOf, isNeighbour, newborn, absorbs, absorbed, pairOf, pairsOf, gains, absent, before, sameEnds, gainIn, hasRoom, gainOf, microStays, linkStays, neighboursOf, born, joined, placed, cleanup, beat, tickOf, insertOf}
+use Rattle.claims.specs.Lists.{In, Each, Ascending}
+use Rattle.claims.specs.Clock.{Counts}
+use Rattle.claims.specs.Weighed.{Weighed}
+use Rattle.claims.specs.DbClaims.{FromFresh, Figures, after, told}
+use Rattle.claims.proofs.Places.{each-in}
+use Rattle.claims.proofs.Order.{each-more, each-append, each-retain, each-map, ascending-map, ascending-append}
+use Rattle.claims.proofs.Cases.{none-done}
+use Rattle.claims.proofs.Runs.{run-keeps}
+use Rattle.claims.proofs.Means.{moved-length}
+use Rattle.claims.proofs.Weights.{later, gains-one, regains, above-0, zero-most, zero-least}
+use Rattle.claims.proofs.DbCases.{placed-cases, tick-cases, insert-cases}
+use Rattle.claims.proofs.DbGains.{Smaller, pairs-each}
+use Rattle.claims.proofs.DbFresh.{neighbours-ascend, fresh-insert, is-fresh}
+
+-- ---- the pairs of an insert are all different: they ascend
+abbrev PairBefore : MicroId × MicroId → MicroId × MicroId → Type 0
+PairBefore p q = (p .0 .0 < q .0 .0) ⊎ ((p .0 .0 ≡ q .0 .0) × (p .1 .0 < q .1 .0))
+
+smaller-first : (a : MicroId) (bs : List MicroId) → Each (Smaller a) bs → map (λ (b : MicroId). (a, b)) bs ≡ map (pairOf a) bs
+smaller-first a [] e = refl
+smaller-first a (b ∷ bs) e =
+    ap₂ _∷_ (sym (ap (λ (t : Bool). cond {A = MicroId × MicroId} t (a, b) (b, a)) (lt-ltb (a .0) (b .0) (e .0)))) (smaller-first a bs (e .1))
+
+pairs-ascend : (ids : List MicroId) → Ascending Smaller ids → Ascending PairBefore (pairsOf ids)
+unfolding pairsOf
+pairs-ascend [] u = tt
+pairs-ascend (a ∷ bs) u =
+    subst (λ (ps : List (MicroId × MicroId)). Ascending PairBefore (ps ++ pairsOf bs)) (smaller-first a bs (u .0))
+    (ascending-append PairBefore (map (λ (b : MicroId). (a, b)) bs) (pairsOf bs)
+    (ascending-map Smaller PairBefore (λ (b : MicroId). (a, b)) (λ (b c : MicroId) (h : Smaller b c). inr (refl, h)) bs (u .1))
+    (pairs-ascend bs (u .1))
+    (each-map (Smaller a) (λ (p : MicroId × MicroId). Each (PairBefore p) (pairsOf bs)) (λ (b : MicroId). (a, b))
+    (λ (b : MicroId) (h : Smaller a b). each-more (λ (q : MicroId × MicroId) (g : Smaller a (q .0)). inl g) (pairsOf bs) (pairs-each (λ c d. Smaller a c) bs (u .1) (λ c d i j l. each-in (Smaller a) bs c (u .0) i)))
+    bs (u .0)))
+
+-- ---- links: each gains once in an insert
+and-both : (a b : Bool) → (a && b) ≡ true → (a ≡ true) × (b ≡ true)
+and-both true true e = (refl, refl)
+and-both true false e = absurd (true≢false (sym e))
+and-both false b e = absurd (true≢false (sym e))
+
+module _ (lambda t : Float) where
+  gain-figure :
+      (P Q : Link → Type 0) (room : Bool) (k : Link) → ((l : Link) → P l → Q l) → ((l : Link) → sameEnds l k ≡ true → P l → Q (gains lambda t l)) →
+      Q (gains lambda t k) → (ls : List Link) → Each P ls → Each Q (gainIn lambda t room k ls)
+  unfolding gainIn
+  gain-figure P Q true k stays gain new [] e = (new, tt)
+  gain-figure P Q false k stays gain new [] e = tt
+  gain-figure P Q room k stays gain new (l ∷ ls) e = go (before l k) (sameEnds l k) room refl (gain-figure P Q room k stays gain new ls (e .1))
+    where
+      go : (a b c : Bool) → sameEnds l k ≡ b → Each Q (gainIn lambda t room k ls)
+          → Each Q (cond a (l ∷ gainIn lambda t room k ls) (cond b (gains lambda t l ∷ ls) (cond c (gains lambda t k ∷ l ∷ ls) (l ∷ ls))))
+      go true b c q ih = (stays l (e .0), ih)
+      go false true c q ih = (gain l q (e .0), each-more stays ls (e .1))
+      go false false true q ih = (new, (stays l (e .0), each-more stays ls (e .1)))
+      go false false false q ih = (stays l (e .0), each-more stays ls (e .1))
+
+  module _ (n : ℕ) (clock : Counts n t) where
+    -- weighed, and not yet gained where a gain is still to come
+    abbrev Gaining : List (MicroId × MicroId) → Link → Type 0
+    Gaining ps l = Weighed (n + 1) (l .value) (l .last) × (In (l .lo, l .hi) ps → Weighed n (l .value) (l .last))
+
+    gain-one : (p : MicroId × MicroId) (ps : List (MicroId × MicroId)) → Each (PairBefore p) ps → (ls : List Link) → Each (Gaining (p ∷ ps)) ls → Each (Gaining ps) (gainOf lambda t ls p)
+    gain-one p ps u ls g =
+        gain-figure (Gaining (p ∷ ps)) (Gaining ps) (hasRoom ls) k (λ (l : Link) (w : Gaining (p ∷ ps) l). (w .0, (λ i. w .1 (inr i)))) again
+        (regains n nought t lambda t clock zero-least (zero-most n (clock .limit)), (λ i. absurd (once (p .0) (p .1) refl refl i))) ls g
+      where
+        k : Link
+        k = absent (p .0) (p .1) t
+
+        once : (a b : MicroId) → a .0 ≡ p .0 .0 → b .0 ≡ p .1 .0 → In (a, b) ps → ⊥
+        once a b x y i = ⊎-elim (λ (l : p .0 .0 < a .0). omega arith) (λ l. let z : p .1 .0 < b .0 = l .1 in omega arith) (each-in (PairBefore p) ps (a, b) u i)
+
+        again : (l : Link) → sameEnds l k ≡ true → Gaining (p ∷ ps) l → Gaining ps (gains lambda t l)
+        again l s w =
+            let b = and-both (eqb (l .lo .0) (p .0 .0)) (eqb (l .hi .0) (p .1 .0)) s in
+            let x : l .lo .0 ≡ p .0 .0 = eqb-true (l .lo .0) (p .0 .0) (b .0) in
+            let y : l .hi .0 ≡ p .1 .0 = eqb-true (l .hi .0) (p .1 .0) (b .1) in
+            let z : _≡_ {A = MicroId × MicroId} (l .lo, l .hi) p = ap₂ {C = MicroId × MicroId} (λ (a b : ℕ). (record { 0 = a }, record { 0 = b })) x y in
+            let v : Weighed n (l .value) (l .last) = w .1 (inl z) in
+            (regains n (l .value) (l .last) lambda t clock (above-0 (l .value) (v .least)) (v .most), (λ i. absurd (once (l .lo) (l .hi) x y i)))
+
+    gain-all : (ps : List (MicroId × MicroId)) → Ascending PairBefore ps → (ls : List Link) → Each (Gaining ps) ls → Each (Gaining []) (foldl (gainOf lambda t) ls ps)
+    gain-all [] u ls g = g
+    gain-all (p ∷ ps) u ls g = gain-all ps (u .1) (gainOf lambda t ls p) (gain-one p ps (u .0) ls g)
+
+-- ---- an insert
+figures-joined : (n : ℕ) (s : State) (x : List Float) → FromFresh n s → Figures n s → Figures (n + 1) (joined s x)
+figures-joined n s x f g =
+    record {
+      means = each-map (λ (m : DbMicro). length (m .cf .mean) ≡ s .settings .dim) (λ (m : DbMicro). length (m .cf .mean) ≡ s .settings .dim) join
+          (λ (m : DbMicro) e. mean m e (isNeighbour (s .settings .r) x m)) (s .micros) (g .means);
+      weights = each-map (λ (m : DbMicro). Weighed n (m .cf .w) (m .last)) (λ (m : DbMicro). Weighed (n + 1) (m .cf .w) (m .last)) join
+          (λ (m : DbMicro) e. weight m e (isNeighbour (s .settings .r) x m)) (s .micros) (g .weights);
+      densities = each-more (λ (l : Link) w. w .0) (joined s x .links)
+          (gain-all (s .settings .lambda) (s .t) n (f .clock) (pairsOf (map idOf (neighboursOf s x)))
+          (pairs-ascend (map idOf (neighboursOf s x)) (neighbours-ascend s x (f .ascending))) (s .links)
+          (each-more (λ (l : Link) (w : Weighed n (l .value) (l .last)). (later n (l .value) (l .last) (f .clock .limit) w, (λ i. w))) (s .links) (g .densities)));
+    }
+  where
+    join : DbMicro → DbMicro
+    join = absorbed (s .settings .r) (s .settings .lambda) (s .t) x
+
+    mean : (m : DbMicro) → length (m .cf .mean) ≡ s .settings .dim → (b : Bool) → length (cond b (absorbs (s .settings .lambda) (s .t) x m) m .cf .mean) ≡ s .settings .dim
+    mean m e true = moved-length _ (m .cf .mean) x ∙ e
+    mean m e false = e
+
+    weight : (m : DbMicro) → Weighed n (m .cf .w) (m .last) → (b : Bool) → Weighed (n + 1) (cond b (absorbs (s .settings .lambda) (s .t) x m) m .cf .w) (cond b (absorbs (s .settings .lambda) (s .t) x m) m .last)
+    weight m w true = regains n (m .cf .w) (m .last) (s .settings .lambda) (s .t) (f .clock) (above-0 (m .cf .w) (w .least)) (w .most)
+    weight m w false = later n (m .cf .w) (m .last) (f .clock .limit) w
+
+figures-born : (n : ℕ) (s : State) (x : List Float) → FromFresh n s → Figures n s → Figures (n + 1) (born s x)
+figures-born n s x f g =
+    record {
+      means = each-append (λ (m : DbMicro). length (m .cf .mean) ≡ s .settings .dim) (s .micros) (new ∷ []) (g .means)
+          (moved-length _ (empty (s .settings .dim) .mean) x ∙ length-replicate (s .settings .dim) nought, tt);
+      weights = each-append (λ (m : DbMicro). Weighed (n + 1) (m .cf .w) (m .last)) (s .micros) (new ∷ [])
+          (each-more (λ (m : DbMicro) w. later n (m .cf .w) (m .last) (f .clock .limit) w) (s .micros) (g .weights))
+          (gains-one n nought (s .t) (f .clock) zero-least (zero-most n (f .clock .limit)), tt);
+      densities = each-more (λ (l : Link) w. later n (l .value) (l .last) (f .clock .limit) w) (s .links) (g .densities);
+    }
+  where
+    new : DbMicro
+    new = newborn (s .settings .dim) (record { 0 = s .next }) (s .t) x
+
+figures-tick : (n : ℕ) (s : State) (d : Nearest) → Figures n s → Figures n (tickOf s d)
+figures-tick n s d g =
+    tick-cases (Figures n) s d
+    (record {
+      means = each-retain (λ (m : DbMicro). length (m .cf .mean) ≡ s .settings .dim) stays (s .micros) (g .means);
+      weights = each-retain (λ (m : DbMicro). Weighed n (m .cf .w) (m .last)) stays (s .micros) (g .weights);
+      densities = each-retain (λ (l : Link). Weighed n (l .value) (l .last)) keep (s .links) (g .densities);
+    })
+    (record { means = g .means; weights = g .weights; densities = g .densities })
+  where
+    u : State
+    u = beat s d
+
+    stays : DbMicro → Bool
+    stays = microStays (s .settings .lambda) (s .floor) (u .t)
+
+    keep : Link → Bool
+    keep = linkStays (s .settings .lambda) (s .floor) (u .t) (cleanup u .micros)
+
+-- ---- the whole run
+record Both (n : ℕ) (s : State) : Type 0 where
+  fromFresh : FromFresh n s
+  figures : Figures n s
+
+both-insert : (n : ℕ) (s : State) (x : List Float) → Both n s → Both (n + oneIfDone (insertOf s x .answer)) (insertOf s x .stream)
+both-insert n s x b =
+    record {
+      fromFresh = fresh-insert n s x (b .fromFresh);
+      figures = insert-cases (λ (r : Outcome State). Figures (n + oneIfDone (r .answer)) (r .stream)) s x
+          (λ a h. subst (λ (k : ℕ). Figures k s) (omega (arith, none-done a h)) (b .figures))
+          (λ l e. figures-tick (n + 1) (placed s x) _
+          (placed-cases (Figures (n + 1)) s x (λ q. figures-joined n s x (b .fromFresh) (b .figures)) (λ q. figures-born n s x (b .fromFresh) (b .figures))));
+    }
+
+pub figures : (p : Settings) (xs : List (List Float)) → Figures (acceptedIn (told p xs)) (after p xs)
+figures p xs =
+    subst (λ (k : ℕ). Figures k (after p xs)) (omega arith)
+    (run-keeps insertOf Both both-insert xs 0 (fresh p) (record { fromFresh = is-fresh p; figures = record { means = tt; weights = tt; densities = tt } }) .figures)

@@ -1,0 +1,140 @@
+-- The labels of a clustered DenStream, told by chains of centres and by the weights of groups.
+use Prim.Native.Nat.{ℕ, _<_, _≤_}
+use mathlib.Core.Path.{_≡_, refl, sym, ap, _∙_, subst}
+use mathlib.Core.Bool.{Bool, true, false}
+use mathlib.Core.List.{List}
+use mathlib.Core.Logic.{_↔_, _⊎_, inl, inr, ⊎-elim}
+use native.Mathlib.Omega.{arith}
+use lib.Ieee.{Float, le, nan}
+use lib.ListN.{length, take, getD, length-map}
+use lib.Seq.{length-take-le, getD-take}
+use Rattle.float.specs.Rounded.{nought}
+use Rattle.union_find.specs.Pairs.{Chain, Joined}
+use Rattle.union_find.specs.ChainLaws.{chain-more}
+use Rattle.union_find.specs.Forest.{rootsOf}
+use Rattle.union_find.specs.UnionLaws.{table-at}
+use Rattle.union_find.specs.RootLaws.{RootsTell, roots-tell}
+use Rattle.labels.specs.Group.{Summed, done, taken, passed, sumFrom, sumsOf}
+use Rattle.labels.specs.GroupLaws.{sums-tell}
+use Rattle.labels.specs.Label as label
+use Rattle.labels.specs.LabelLaws as laws
+use Rattle.labels.specs.LabelLaws.{LabelsTell}
+use Rattle.model.specs.Limits.{microsMost}
+use Rattle.model.specs.Families.{labelsBy, countedBy}
+use Rattle.model.specs.DenState.{State}
+use Rattle.model.specs.DenInsert.{fadedWeight}
+use Rattle.model.specs.DenCluster.{joinsOf, fadedWeights, labelsOf, clusterOf}
+use Rattle.claims.specs.DenClaims.{OneGroup, Weighs, LabelsTellGroups}
+use Rattle.claims.proofs.Places.{at-there, at-getD, there-test}
+use Rattle.claims.proofs.DenPairs.{listed-step, step-listed}
+
+summed-more : {P Q : ℕ → Type 0} → ((k : ℕ) → P k ↔ Q k) → {i : ℕ} {sum v : Float} {ws : List Float} → Summed P i sum ws v → Summed Q i sum ws v
+summed-more f done = done
+summed-more f (taken {i = i} p s) = taken (f i .0 p) (summed-more f s)
+summed-more f (passed {i = i} p s) = passed (λ q. p (f i .1 q)) (summed-more f s)
+
+-- a stream whose labels are those of its potential ones
+module _ (s : State) (labelled : s .labels ≡ labelsOf s) (few : length (s .potential) ≤ microsMost) where
+  abbrev ws : List Float
+  ws = fadedWeights s
+
+  abbrev n : ℕ
+  n = length ws
+
+  n-is : n ≡ length (s .potential)
+  n-is = length-map (s .potential) (fadedWeight (s .params .lambda) (s .t))
+
+  low : n ≤ 64
+  low = omega (arith, n-is, few)
+
+  abbrev roots : List ℕ
+  roots = rootsOf n (joinsOf s)
+
+  tells : RootsTell n (joinsOf s) roots
+  tells = roots-tell n low (joinsOf s)
+
+  -- ---- a chain of joined pairs is a chain of close centres
+  chains : (i j : ℕ) → Chain (Joined n (joinsOf s)) i j ↔ OneGroup s i j
+  chains i j = (
+    (λ c. chain-more (λ a b p. listed-step s a b (p .2)) c),
+    (λ c. chain-more (λ a b t. let f : a < b = t .first in let l : b < length (s .potential) = t .held in (omega (arith, n-is), omega (arith, n-is), step-listed s a b t)) c),
+  )
+
+  -- ---- the weight of a group is the sum at its root
+  sumAt : ℕ → Float
+  sumAt i = sumFrom nought (getD roots i 0) roots ws
+
+  sum-at : (i : ℕ) → i < n → getD (sumsOf roots ws) (getD roots i 0) nan ≡ sumAt i
+  unfolding sumsOf sumAt
+  sum-at i h = table-at 64 (λ v. sumFrom nought v roots ws) nan (getD roots i 0) (tells .low i (omega (arith, low)))
+
+  weighs : (i : ℕ) → i < n → (v : Float) → Weighs s i v ↔ (v ≡ sumAt i)
+  weighs i h v =
+      let t = sums-tell n low (joinsOf s) ws refl i h v in (
+        (λ w. t .0 (summed-more (λ k. (chains k i .1, chains k i .0)) w) ∙ sum-at i h),
+        (λ e. summed-more (λ k. chains k i) (t .1 (e ∙ sym (sum-at i h)))),
+      )
+
+  -- ---- which places count
+  abbrev mask : List Bool
+  mask = countedBy (s .params .mu) ws (joinsOf s)
+
+  mask-length : length mask ≡ n
+  unfolding countedBy
+  mask-length = length-map (take n roots) _ ∙ length-take-le n roots (omega (arith, low, tells .count))
+
+  counted : ℕ → Bool
+  counted v = le (s .params .mu) (sumFrom nought v roots ws)
+
+  mask-at : (i : ℕ) → i < n → getD mask i false ≡ le (s .params .mu) (sumAt i)
+  unfolding countedBy sumAt counted
+  mask-at i h =
+      let l : length (take n roots) ≡ n = length-take-le n roots (omega (arith, low, tells .count)) in
+      let a = at-there (take n roots) i (omega arith) in
+      there-test counted (take n roots) i (a .0) (a .1) ∙ ap counted (sym (at-getD (take n roots) i (a .0) 0 (a .1)) ∙ getD-take n roots i 0 h)
+
+  counts : (i : ℕ) (v : Float) → i < n → Weighs s i v → getD mask i false ≡ le (s .params .mu) v
+  counts i v h w = mask-at i h ∙ ap (le (s .params .mu)) (sym (weighs i h v .0 w))
+
+  tell : LabelsTell n (joinsOf s) mask (s .labels)
+  unfolding labelsOf labelsBy
+  tell =
+      subst (LabelsTell n (joinsOf s) mask) (sym (labelled ∙ ap (λ (m : ℕ). label.labelsOf mask (rootsOf m (joinsOf s))) mask-length))
+      (laws.labels-tell n low (joinsOf s) mask mask-length)
+
+  -- places of one group count alike
+  alike : (i j : ℕ) → i < n → j < n → OneGroup s i j → getD mask i false ≡ getD mask j false
+  unfolding sumAt
+  alike i j h k c =
+      mask-at i h ∙ ap (λ (v : ℕ). le (s .params .mu) (sumFrom nought v roots ws)) (tells .equal i j (omega (arith, low)) (omega (arith, low)) .1 (chains i j .1 c)) ∙ sym (mask-at j k)
+
+  pub labels-tell : LabelsTellGroups s
+  labels-tell =
+      record {
+        count = tell .count ∙ n-is;
+        weighed = λ i h. (sumAt i, weighs i (inside i h) (sumAt i) .1 refl);
+        light = λ i v h w.
+            let o = tell .outside i (inside i h) in
+            let c = counts i v (inside i h) w in
+            ((λ e. sym c ∙ o .0 e), (λ e. o .1 (c ∙ e)));
+        groups = λ i j v u h k w x.
+            let q = tell .equal i j (inside i h) (inside j k) in
+            let c = counts i v (inside i h) w in
+            let d = counts j u (inside j k) x in (
+              (λ e. ⊎-elim (λ y. inl (sym c ∙ y .0, sym d ∙ y .1)) (λ y. inr (chains i j .0 (y .2))) (q .0 e)),
+              (λ e. q .1 (⊎-elim (λ y. inl (c ∙ y .0, d ∙ y .1)) (λ g. both i j (getD mask i false) refl (alike i j (inside i h) (inside j k) g) (chains i j .1 g)) e)),
+            );
+      }
+    where
+      inside : (i : ℕ) → i < length (s .potential) → i < n
+      inside i h = omega (arith, n-is)
+
+      both :
+          (i j : ℕ) (t : Bool) → getD mask i false ≡ t → getD mask i false ≡ getD mask j false → Chain (Joined n (joinsOf s)) i j →
+          (laws.Outside mask i × laws.Outside mask j) ⊎ (laws.Inside mask i × laws.Inside mask j × Chain (Joined n (joinsOf s)) i j)
+      both i j true e h c = inr (e, sym h ∙ e, c)
+      both i j false e h c = inl (e, sym h ∙ e)
+
+pub groups-told : (s : State) → length (s .potential) ≤ microsMost → LabelsTellGroups (clusterOf s)
+unfolding labelsOf
+groups-told s few = labels-tell (clusterOf s) refl few

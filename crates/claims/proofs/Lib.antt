@@ -1,0 +1,27 @@
+-- The proofs of demand 3's claims; the theorem is in Theorem. First what holds of any stream, then DBSTREAM, then DenStream.
+pub mod Order
+pub mod Places
+pub mod Cases
+pub mod Runs
+pub mod Clocks
+pub mod Means
+pub mod Weight
+pub mod Weights
+pub mod DbPlaces
+pub mod DbCases
+pub mod DbGains
+pub mod DbFresh
+pub mod DbNumbers
+pub mod DbRoom
+pub mod DbFigures
+pub mod DbDrift
+pub mod DbLabels
+pub mod DbTwins
+pub mod DbTogether
+pub mod DenPairs
+pub mod DenLabels
+pub mod DenTrials
+pub mod DenCases
+pub mod DenFresh
+pub mod DenFigures
+pub mod Theorem

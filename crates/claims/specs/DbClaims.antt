@@ -1,0 +1,193 @@
+-- Demand 3 for DBSTREAM, as document 01 says it under "A whole run". Statements only; proofs/Theorem proves them.
+use Prim.Native.Nat.{ℕ, _+_, _-_, _*_, _%_, _^_, _≤_, _<_}
+use mathlib.Core.Path.{_≡_}
+use mathlib.Core.Logic.{_↔_, _⊎_, _≢_}
+use mathlib.Core.Bool.{true, false}
+use mathlib.Core.List.{List, _++_, map, foldl}
+use lib.Dec.{T}
+use lib.IntN.{ℤ, negsuc}
+use lib.ListN.{length}
+use lib.Ieee.{Float, le}
+use Rattle.float.specs.Rounded.{_⊗_, one, whole}
+use Rattle.union_find.specs.Pairs.{Chain}
+use Rattle.drift.specs.Monitor.{newOf}
+use Rattle.drift.specs.History.{Seen, watchOf}
+use Rattle.drift.specs.Laws.{Heard}
+use Rattle.model.specs.declared.micro.MicroId.{MicroId}
+use Rattle.model.specs.declared.micro.DbMicro.{DbMicro}
+use Rattle.model.specs.declared.link.Link.{Link}
+use Rattle.model.specs.declared.answers.Opening.the-variants.{Open}
+use Rattle.model.specs.declared.answers.Insertion.{Insertion}
+use Rattle.model.specs.declared.answers.Insertion.the-variants.{Done}
+use Rattle.model.specs.Limits.{microsMost, linksMost}
+use Rattle.model.specs.Run.{runOf, answersOf, acceptedIn}
+use Rattle.model.specs.DbState.{Settings, State, asked, fresh, openOf}
+use Rattle.model.specs.DbInsert.{idOf, pairsOf, gainIn, absent, neighboursOf, joined, nearestFor, insertOf}
+use Rattle.model.specs.DbCluster.{isStrong, isDense, clusterOf}
+use Rattle.claims.specs.Lists.{At, In, Each, Ascending}
+use Rattle.claims.specs.Clock.{Counts}
+use Rattle.claims.specs.Weighed.{Weighed}
+use Rattle.claims.specs.History.{seenFrom}
+
+-- ---- labels
+abbrev pub Strong : State → DbMicro → Type 0
+Strong s m = isStrong s m ≡ true
+
+-- "A weak micro-cluster is one that isn't strong."
+abbrev pub Weak : State → DbMicro → Type 0
+Weak s m = isStrong s m ≡ false
+
+-- a is the creation number of a strong micro-cluster that is held
+pub record StrongNumber (s : State) (a : ℕ) : Type 0 where
+  pub micro : DbMicro
+  pub held : In micro (s .micros)
+  pub number : micro .id .0 ≡ a
+  pub strong : Strong s micro
+
+-- one step of a chain, which may take it either way round: a held link between two strong ones, of faded density ≥ alpha × min_weight
+pub record Step (s : State) (a b : ℕ) : Type 0 where
+  pub link : Link
+  pub held : In link (s .links)
+  pub lo : link .lo .0 ≡ a
+  pub hi : link .hi .0 ≡ b
+  pub dense : isDense s link ≡ true
+  pub from : StrongNumber s a
+  pub to : StrongNumber s b
+
+-- both weak, or both strong and chained by strong ones; "A chain has none or more steps."
+abbrev pub OneFamily : State → DbMicro → DbMicro → Type 0
+OneFamily s m n = (Weak s m × Weak s n) ⊎ (Strong s m × Strong s n × Chain (Step s) (m .id .0) (n .id .0))
+
+-- of a clustered stream
+pub record LabelsTellFamilies (s : State) : Type 0 where
+  -- a label for each micro-cluster
+  pub count : length (s .labels) ≡ length (s .micros)
+  -- −1 is the label of the weak, and of no other
+  pub weak : (i : ℕ) (m : DbMicro) (k : ℤ) → At (s .micros) i m → At (s .labels) i k → (k ≡ negsuc 0) ↔ Weak s m
+  -- two labels are equal exactly for one family
+  pub families :
+      (i j : ℕ) (m n : DbMicro) (k l : ℤ) → At (s .micros) i m → At (s .micros) j n → At (s .labels) i k → At (s .labels) j l →
+      (k ≡ l) ↔ OneFamily s m n
+
+-- ---- two DBSTREAMs
+-- alike in dim, r and lambda; the second's min_weight and rounded alpha × min_weight are no larger
+pub record Laxer (p q : Settings) : Type 0 where
+  pub dim : p .dim ≡ q .dim
+  pub r : p .r ≡ q .r
+  pub lambda : p .lambda ≡ q .lambda
+  pub minWeight : T (le (q .minWeight) (p .minWeight))
+  pub density : T (le (q .alpha ⊗ q .minWeight) (p .alpha ⊗ p .minWeight))
+
+-- "every kept figure of micro-clusters, links and drift report is equal"
+pub record SameHoldings (s u : State) : Type 0 where
+  pub clock : s .t ≡ u .t
+  pub next : s .next ≡ u .next
+  pub micros : s .micros ≡ u .micros
+  pub links : s .links ≡ u .links
+  pub drift : s .drift ≡ u .drift
+
+-- the places i and j have one label, other than −1
+pub record Together (s : State) (i j : ℕ) : Type 0 where
+  pub label : ℤ
+  pub here : At (s .labels) i label
+  pub there : At (s .labels) j label
+  pub other : label ≢ negsuc 0
+
+-- equal labels other than −1 in s are equal and other than −1 in u: "labels are matched by list place"
+abbrev pub StayTogether : State → State → Type 0
+StayTogether s u = (i j : ℕ) → Together s i j → Together u i j
+
+-- ---- a stream from fresh
+abbrev pub Older : DbMicro → DbMicro → Type 0
+Older m n = m .id .0 < n .id .0
+
+-- the links' order
+abbrev pub Before : Link → Link → Type 0
+Before l k = (l .lo .0 < k .lo .0) ⊎ ((l .lo .0 ≡ k .lo .0) × (l .hi .0 < k .hi .0))
+
+-- a is the creation number of a micro-cluster that is held
+abbrev pub Live : List DbMicro → ℕ → Type 0
+Live ms a = (m : DbMicro) × In m ms × (m .id .0 ≡ a)
+
+-- the links over the micro-clusters ms: they ascend, the smaller number first, both ends held
+pub record LinksHeld (ms : List DbMicro) (ls : List Link) : Type 0 where
+  pub ascending : Ascending Before ls
+  pub smallerFirst : Each (λ (l : Link). l .lo .0 < l .hi .0) ls
+  pub ends : Each (λ (l : Link). Live ms (l .lo .0) × Live ms (l .hi .0)) ls
+
+-- after n accepted inserts
+pub record FromFresh (n : ℕ) (s : State) : Type 0 where
+  pub clock : Counts n (s .t)
+  -- creation numbers ascend and are below the next
+  pub ascending : Ascending Older (s .micros)
+  pub belowNext : Each (λ (m : DbMicro). m .id .0 < s .next) (s .micros)
+  pub nextLimit : s .next ≤ n
+  pub links : LinksHeld (s .micros) (s .links)
+
+-- what is kept of each micro-cluster and link
+pub record Figures (n : ℕ) (s : State) : Type 0 where
+  pub means : Each (λ (m : DbMicro). length (m .cf .mean) ≡ s .settings .dim) (s .micros)
+  pub weights : Each (λ (m : DbMicro). Weighed n (m .cf .w) (m .last)) (s .micros)
+  pub densities : Each (λ (l : Link). Weighed n (l .value) (l .last)) (s .links)
+
+-- a gain in a list that always has room
+abbrev pub gainUnbounded : (lambda t : Float) → List Link → MicroId × MicroId → List Link
+gainUnbounded lambda t ls p = gainIn lambda t true (absent (p .0) (p .1) t) ls
+
+-- no more than there is room for, and none of the definitions' cuts is met
+pub record Fits (s : State) : Type 0 where
+  pub micros : length (s .micros) ≤ microsMost
+  -- no more links than pairs
+  pub pairs : 2 * length (s .links) ≤ length (s .micros) * (length (s .micros) - 1)
+  pub links : length (s .links) ≤ linksMost
+  -- a creation number never wraps
+  pub number : (s .next + 1) % 2 ^ 64 ≡ s .next + 1
+  -- and no link is turned away: an insert's gains are those in a list without bound
+  pub roomForAll :
+      (x : List Float) →
+      joined s x .links ≡ foldl (gainUnbounded (s .settings .lambda) (s .t)) (s .links) (pairsOf (map idOf (neighboursOf s x)))
+
+-- ---- demand 3
+abbrev pub Opens : Settings → Type 0
+Opens p = asked p ≡ Open
+
+-- the stream after the opening and every insert of the list, "refused or not"
+abbrev pub after : Settings → List (List Float) → State
+after p xs = runOf insertOf (fresh p) xs
+
+-- what each insert was answered
+abbrev pub told : Settings → List (List Float) → List Insertion
+told p xs = answersOf insertOf (fresh p) xs
+
+-- what the drift monitor observed
+abbrev pub seen : Settings → List (List Float) → List Seen
+seen p xs = seenFrom insertOf nearestFor 0 (fresh p) xs
+
+-- of one stream, after any list of inserts
+pub record OneStream (p : Settings) (xs : List (List Float)) : Type 0 where
+  pub labels : LabelsTellFamilies (clusterOf (after p xs))
+  pub holdings : FromFresh (acceptedIn (told p xs)) (after p xs)
+  pub figures : Figures (acceptedIn (told p xs)) (after p xs)
+  pub fits : Fits (after p xs)
+  -- a number given out before some of the inserts and live after them was live before them: no number is used twice
+  pub neverReused :
+      (earlier later : List (List Float)) → earlier ++ later ≡ xs → (a : ℕ) → a < after p earlier .next → Live (after p xs .micros) a →
+      Live (after p earlier .micros) a
+  -- the drift monitor is the fresh one after these observations
+  pub drift : after p xs .drift ≡ watchOf (newOf (p .r)) (seen p xs)
+  -- so its report is told from them: the alarms, the last one's tick, and the window of the values seen
+  pub report : Heard (p .r) (seen p xs) (after p xs .drift)
+
+-- of two streams, the second's bounds no larger, after the same list
+pub record TwoStreams (p q : Settings) (xs : List (List Float)) : Type 0 where
+  pub refusals : told p xs ≡ told q xs
+  pub holdings : SameHoldings (after p xs) (after q xs)
+  pub labels : StayTogether (clusterOf (after p xs)) (clusterOf (after q xs))
+
+pub record Demand3 : Type 0 where
+  pub one : (p : Settings) → Opens p → (xs : List (List Float)) → OneStream p xs
+  pub two : (p q : Settings) → Opens p → Opens q → Laxer p q → (xs : List (List Float)) → TwoStreams p q xs
+  -- "Fresh means as an accepted opening gives it"
+  pub opened : (p : Settings) → Opens p → openOf p .stream ≡ fresh p
+  -- "a refused insert changes nothing"
+  pub refused : (s : State) (x : List Float) → insertOf s x .answer ≢ Done → insertOf s x .stream ≡ s

@@ -1,0 +1,17 @@
+-- A stored weight or link value, of any stream. Definition only.
+use Prim.Native.Nat.{ℕ, _<_}
+use mathlib.Core.Path.{_≡_}
+use lib.Dec.{T}
+use lib.Ieee.{Float, le}
+use Rattle.float.specs.Rounded.{nought, one, whole}
+use Rattle.model.specs.Fading.{fadedTo}
+
+-- after n accepted inserts: from 1 to n, so finite, and last changed at the tick of one of them
+pub record Weighed (n : ℕ) (w last : Float) : Type 0 where
+  pub least : T (le one w)
+  pub most : T (le w (whole n))
+  pub tick : ℕ
+  pub before : tick < n
+  pub at : last ≡ whole tick
+  -- faded to any clock, by any lambda: at least 0 and at most what is stored
+  pub faded : (lambda t : Float) → T (le nought (fadedTo lambda t w last)) × T (le (fadedTo lambda t w last) w)

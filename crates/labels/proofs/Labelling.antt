@@ -1,0 +1,130 @@
+-- The loops of `place_in` and `labels`. Assumes nothing.
+use Prim.Native.Nat.{ℕ, suc, _+_, _-_, _<_, _≤_, min}
+use mathlib.Core.Path.{_≡_, refl, sym, _∙_, ap, ap₂, subst}
+use mathlib.Core.Logic.{_≢_}
+use mathlib.Core.Bool.{Bool, true, false, cond}
+use mathlib.Core.List.{List, _∷_, _++_, append-nil}
+use native.Mathlib.Omega.{arith}
+use native.Mathlib.Numerals.{add-one}
+use lib.Dec.{eqb}
+use lib.IntN.{ℤ, pos, negsuc}
+use lib.ListN.{length, take, drop, getD, set, replicate, length-set, length-take, length-replicate, take-append-drop}
+use lib.Seq.{drop-cons, take-suc-set, drop-set-lt, append-snoc, set-getD, length-take-le}
+use borrow.Author.Tests.{eq-eqb, ne-eqb}
+use Rattle.labels.proofs.Cuts.{cut-take, left-next, left-none}
+use Rattle.labels.specs.Label.{placeIn, meet, labelsFrom, labelsOf, labelsIn}
+use Rattle.labels.specs.LabelLaws.{place-le, meet-old, meet-new, metBy}
+
+-- ---- the search of a root among the first `count` of those met
+module _ (v count i : ℕ) (met : List ℕ) (h : i < count) (fits : count ≤ length met) where
+  place-turn : placeIn v (drop i (take count met)) ≡ cond (eqb (getD met i 0) v) 0 (suc (placeIn v (drop (suc i) (take count met))))
+  unfolding placeIn
+  place-turn = ap (placeIn v) (left-next count i met 0 h fits)
+
+  pub place-here : getD met i 0 ≡ v → placeIn v (drop i (take count met)) ≡ 0
+  place-here e = place-turn ∙ ap (λ (t : Bool). cond t 0 (suc (placeIn v (drop (suc i) (take count met))))) (eq-eqb (getD met i 0) v e)
+
+  pub place-next : getD met i 0 ≢ v → placeIn v (drop i (take count met)) ≡ suc (placeIn v (drop (i + 1) (take count met)))
+  place-next e =
+      place-turn ∙ ap (λ (t : Bool). cond t 0 (suc (placeIn v (drop (suc i) (take count met))))) (ne-eqb (getD met i 0) v e)
+      ∙ ap (λ (k : ℕ). suc (placeIn v (drop k (take count met)))) (sym (add-one i))
+
+pub place-none : (v count i : ℕ) (met : List ℕ) → count ≤ i → placeIn v (drop i (take count met)) ≡ 0
+unfolding placeIn
+place-none v count i met h = ap (placeIn v) (left-none count i met h)
+
+pub place-most : (v count : ℕ) (met : List ℕ) → placeIn v (take count met) ≤ count
+place-most v count met = omega (arith, place-le v (take count met), length-take count met)
+
+-- ---- the labels written so far; `count` roots are met
+pub record Labelling (mask : List Bool) (roots : List ℕ) (end : ℕ) (labels : List ℤ) (met : List ℕ) (count i : ℕ) : Type 0 where
+  pub size : length labels ≡ 64
+  pub room : length met ≡ 64
+  pub few : count ≤ i
+  pub within : i ≤ end
+  -- those written, and those that the places left will get
+  pub made : take i labels ++ labelsFrom (take count met) (drop i (take end mask)) (drop i roots) ≡ labelsOf (take end mask) roots
+  pub rest : drop i labels ≡ replicate (64 - i) (negsuc 0)
+
+pub labels-start : (mask : List Bool) (roots : List ℕ) (end : ℕ) → Labelling mask roots end (replicate 64 (negsuc 0)) (replicate 64 0) 0 0
+unfolding labelsOf
+labels-start mask roots end =
+    record { size = length-replicate 64 (negsuc 0); room = length-replicate {A = ℕ} 64 0; few = omega arith; within = omega arith; made = refl; rest = refl }
+
+module _ (mask : List Bool) (roots : List ℕ) (end : ℕ) (labels : List ℤ) (met : List ℕ) (count i : ℕ) (l : Labelling mask roots end labels met count i)
+    (h : i < end) (he : end ≤ 64) (lm : length mask ≡ 64) (lr : length roots ≡ 64) where
+  abbrev v : ℕ
+  v = getD roots i 0
+
+  abbrev us : List ℕ
+  us = take count met
+
+  -- the label of the place i
+  abbrev z : Bool → ℤ
+  z b = cond b (pos (placeIn v us)) (negsuc 0)
+
+  length-us : length us ≡ count
+  length-us = length-take-le count met (omega (arith, l .few, l .room))
+
+  -- what is left of the array begins with the label that the place i has so far
+  unwritten : getD labels i (negsuc 0) ∷ drop (suc i) labels ≡ replicate (suc (63 - i)) (negsuc 0)
+  unwritten =
+      let q : 64 - i ≡ suc (63 - i) = omega arith in
+      sym (drop-cons labels i (negsuc 0) (omega (arith, l .size))) ∙ l .rest ∙ ap (λ (k : ℕ). replicate k (negsuc 0)) q
+
+  labels-next : (b : Bool) → getD mask i false ≡ b → (met′ : List ℕ) (count′ : ℕ) → length met′ ≡ 64 → count′ ≤ i + 1 → take count′ met′ ≡ metBy us b v
+      → Labelling mask roots end (set labels i (z b)) met′ count′ (i + 1)
+  unfolding labelsFrom
+  labels-next b eb met′ count′ room′ few′ e =
+      record {
+        size = length-set labels i (z b) ∙ l .size;
+        room = room′;
+        few = few′;
+        within = omega arith;
+        made = ap (λ (k : ℕ). take k (set labels i (z b)) ++ labelsFrom (take count′ met′) (drop k (take end mask)) (drop k roots)) (add-one i)
+            ∙ ap₂ (λ (ls : List ℤ) (us′ : List ℕ). ls ++ labelsFrom us′ (drop (suc i) (take end mask)) (drop (suc i) roots)) (take-suc-set labels i (z b) (omega (arith, l .size))) e
+            ∙ append-snoc (take i labels) (z b) (labelsFrom (metBy us b v) (drop (suc i) (take end mask)) (drop (suc i) roots))
+            ∙ ap₂ (λ (bs : List Bool) (rs : List ℕ). take i labels ++ labelsFrom us bs rs) (sym mask-drop) (sym (drop-cons roots i 0 (omega arith)))
+            ∙ l .made;
+        rest = let q : 64 - (i + 1) ≡ 63 - i = omega arith in
+            ap (λ (k : ℕ). drop k (set labels i (z b))) (add-one i) ∙ drop-set-lt (suc i) labels i (z b) (omega arith)
+            ∙ ap (drop 1) unwritten ∙ ap (λ (k : ℕ). replicate k (negsuc 0)) (sym q);
+      }
+    where
+      mask-drop : drop i (take end mask) ≡ b ∷ drop (suc i) (take end mask)
+      mask-drop = left-next end i mask false h (omega arith) ∙ ap (λ (t : Bool). t ∷ drop (suc i) (take end mask)) eb
+
+  -- outside the mask, with an old root, and with a new one
+  pub label-out : getD mask i false ≡ false → Labelling mask roots end labels met count (i + 1)
+  label-out e = subst (λ (ls : List ℤ). Labelling mask roots end ls met count (i + 1)) same (labels-next false e met count (l .room) (omega (arith, l .few)) refl)
+    where
+      same : set labels i (negsuc 0) ≡ labels
+      same = ap (λ (ls : List ℤ). set labels i (getD ls 0 (negsuc 0))) (sym unwritten) ∙ set-getD labels i (negsuc 0)
+
+  pub label-old : getD mask i false ≡ true → (k : ℕ) → k ≡ placeIn v us → k ≢ count → Labelling mask roots end (set labels i (pos k)) met count (i + 1)
+  label-old e k ek n =
+      subst (λ (q : ℕ). Labelling mask roots end (set labels i (pos q)) met count (i + 1)) (sym ek)
+      (labels-next true e met count (l .room) (omega (arith, l .few)) (sym (meet-old us v (omega (arith, place-le v us, length-us)))))
+
+  pub label-new : getD mask i false ≡ true → (k : ℕ) → k ≡ placeIn v us → k ≡ count → Labelling mask roots end (set labels i (pos k)) (set met k v) (count + 1) (i + 1)
+  label-new e k ek n =
+      subst (λ (q : ℕ). Labelling mask roots end (set labels i (pos k)) (set met q v) (count + 1) (i + 1)) (sym n)
+      (subst (λ (q : ℕ). Labelling mask roots end (set labels i (pos q)) (set met count v) (count + 1) (i + 1)) (sym ek)
+      (labels-next true e (set met count v) (count + 1) (length-set met count v ∙ l .room) (omega (arith, l .few)) grown))
+    where
+      grown : take (count + 1) (set met count v) ≡ meet us v
+      grown =
+          ap (λ (q : ℕ). take q (set met count v)) (add-one count) ∙ take-suc-set met count v (omega (arith, l .few, l .room))
+          ∙ sym (meet-new us v (omega (arith, length-us)))
+
+pub labels-end : (mask : List Bool) (roots : List ℕ) (n end : ℕ) (labels : List ℤ) (met : List ℕ) (count : ℕ) → end ≡ min n 64 → length mask ≡ 64 → Labelling mask roots end labels met count end → labels ≡ labelsIn roots mask n
+unfolding labelsIn labelsFrom
+labels-end mask roots n end labels met count en lm l =
+    sym (take-append-drop end labels)
+    ∙ ap₂ _++_ (written ∙ ap (λ (bs : List Bool). labelsOf bs roots) (cut-take n end mask (omega arith))) (l .rest ∙ ap (λ (k : ℕ). replicate (64 - k) (negsuc 0)) en)
+  where
+    written : take end labels ≡ labelsOf (take end mask) roots
+    written =
+        sym (append-nil (take end labels))
+        ∙ ap (λ (bs : List Bool). take end labels ++ labelsFrom (take count met) bs (drop end roots)) (sym (left-none end end mask (omega arith)))
+        ∙ l .made

@@ -1,0 +1,3 @@
+mod Cuts
+mod Labelling
+mod Summing

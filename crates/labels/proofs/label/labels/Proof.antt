@@ -1,0 +1,109 @@
+use lib.ListN.{getD}
+use mathlib.Core.Path.{_∙_}
+use borrow.Author.Needs.{sfits-of}
+use mir.Syntax.{w64}
+use mir.Facts.{toZ-ofZ}
+use Rattle.labels.proofs.Labelling.{place-most}
+use Prim.Native.Nat.{_-_}
+use mathlib.Core.Path.{_≡_, subst}
+use mathlib.Core.Logic.{⊎-elim}
+use native.Mathlib.Omega.{arith}
+use Rattle.labels.proofs.Labelling.{Labelling, labels-start, label-out, label-old, label-new, labels-end}
+use borrow.Author.Needs.{needs}
+use Rattle.labels.proofs.label.labels.Statement.{statement}
+use Rattle.labels.proofs.label.labels.Tie as tie
+
+abbrev Inv-loop : tie.InvT-loop
+Inv-loop n roots mask end labels₀ met₀ count₀ i₀ labels met count i = Labelling mask roots end labels met count i
+
+abbrev μ-loop : tie.MeasureT-loop
+μ-loop n roots mask end labels₀ met₀ count₀ i₀ labels met count i = end - i
+
+cut-requires : tie.Need-cut-requires Inv-loop μ-loop
+cut-requires c κs = search needs
+
+loop-holds : tie.Need-loop-holds Inv-loop μ-loop
+loop-holds c = let a = c .before .args in labels-start (a .t2) (a .t1) (c .cut .result)
+
+array-read-if1 : tie.Need-array-read-if1 Inv-loop μ-loop
+array-read-if1 c = search needs
+
+mul-v : tie.Need-mul-v Inv-loop μ-loop
+mul-v c = search needs
+
+array-read-v : tie.Need-array-read-v Inv-loop μ-loop
+array-read-v c = search needs
+
+place-in-requires : tie.Need-place-in-requires Inv-loop μ-loop
+place-in-requires c κs = search needs
+
+mul-met : tie.Need-mul-met Inv-loop μ-loop
+mul-met c = search needs
+
+array-write-met : tie.Need-array-write-met Inv-loop μ-loop
+array-write-met c = search needs
+
+add-count : tie.Need-add-count Inv-loop μ-loop
+add-count c = search needs
+
+label-requires : tie.Need-label-requires Inv-loop μ-loop
+label-requires c κs =
+    let l = c .before .before .before .before .loop in
+    omega (arith, c .before .place-in .ensures, place-most (getD (c .before .before .before .before .before .before .args .t1) (l .i) 0) (l .count) (l .met), l .inv .few)
+
+mul-labels : tie.Need-mul-labels Inv-loop μ-loop
+mul-labels c = search needs
+
+array-set-from-labels : tie.Need-array-set-from-labels Inv-loop μ-loop
+array-set-from-labels c = search needs
+
+add-i : tie.Need-add-i Inv-loop μ-loop
+add-i c = search needs
+
+loop-less : tie.Need-loop-less Inv-loop μ-loop
+loop-less c = search needs
+
+loop-again : tie.Need-loop-again Inv-loop μ-loop
+loop-again c =
+    let a = c .before .before .before .before .args in
+    let l = c .before .before .loop in
+    let end = c .before .before .before .cut .result in
+    ⊎-elim
+    (λ w.
+    let stored = toZ-ofZ (sfits-of {w = w64} (w .3 .ok)) ∙ w .3 .ensures in
+    ⊎-elim
+    (λ x. rw (w .4, w .5, w .6, stored, x .1, x .2) (label-new (a .t2) (a .t1) end (l .labels) (l .met) (l .count) (l .i) (l .inv) (c .before .loop-test .taken) (omega arith) (omega arith) (omega arith) (w .0 .taken) (w .1 .result) (w .1 .ensures) (x .0 .taken)))
+    (λ x. rw (w .4, w .5, w .6, stored, x .1, x .2) (label-old (a .t2) (a .t1) end (l .labels) (l .met) (l .count) (l .i) (l .inv) (c .before .loop-test .taken) (omega arith) (omega arith) (omega arith) (w .0 .taken) (w .1 .result) (w .1 .ensures) (x .0 .left)))
+    (w .2 .came))
+    (λ w. rw (w .1, w .2, w .3) (label-out (a .t2) (a .t1) end (l .labels) (l .met) (l .count) (l .i) (l .inv) (c .before .loop-test .taken) (omega arith) (omega arith) (omega arith) (w .0 .left)))
+    (c .if1 .came)
+
+returns : tie.Need-returns Inv-loop μ-loop
+returns c =
+    let a = c .before .before .before .args in
+    let l = c .before .loop in
+    let e : l .i ≡ c .before .before .cut .result = omega arith in
+    labels-end (a .t2) (a .t1) (a .n) (c .before .before .cut .result) (l .labels) (l .met) (l .count) (c .before .before .cut .ensures) (omega arith) (subst (Labelling (a .t2) (a .t1) (c .before .before .cut .result) (l .labels) (l .met) (l .count)) e (l .inv))
+
+pub labels-spec : {M : Type 1} → statement M
+labels-spec =
+    tie.close
+    (tie.spec
+    Inv-loop
+    μ-loop
+    cut-requires
+    loop-holds
+    array-read-if1
+    mul-v
+    array-read-v
+    place-in-requires
+    mul-met
+    array-write-met
+    add-count
+    label-requires
+    mul-labels
+    array-set-from-labels
+    add-i
+    loop-less
+    loop-again
+    returns)

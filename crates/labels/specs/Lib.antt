@@ -1,0 +1,4 @@
+pub mod Label
+pub mod Group
+pub mod LabelLaws
+pub mod GroupLaws

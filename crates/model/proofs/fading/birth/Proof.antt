@@ -1,0 +1,16 @@
+-- `birth` meets its contract. Assumes nothing.
+use borrow.Author.Needs.{needs}
+use Rattle.model.proofs.fading.birth.Statement.{statement}
+use Rattle.model.proofs.fading.birth.Tie as tie
+
+new-requires : tie.Need-new-requires
+new-requires c κs = search needs
+
+push-requires : tie.Need-push-requires
+push-requires c κs = search needs
+
+returns : tie.Need-returns
+returns c = rw (c .push .ensures, c .before .new .ensures)
+
+pub birth-spec : {M : Type 1} → statement M
+birth-spec = tie.close (tie.spec new-requires push-requires returns)

@@ -1,0 +1,59 @@
+-- Document 01, Families: DenStream's groups and labels; its read-outs. Definitions only.
+use Prim.Native.Nat.{ℕ, _+_}
+use mathlib.Core.Bool.{Bool, cond}
+use mathlib.Core.List.{List, [], _∷_, _++_, map}
+use lib.IntN.{ℤ}
+use lib.Ieee.{Float, binary64, le, ofBits}
+use Rattle.float.specs.Rounded.{_⊗_}
+use Rattle.feature.specs.declared.spherical.Spherical.{Spherical}
+use Rattle.feature.specs.Distance.{sqDist}
+use Rattle.model.specs.declared.micro.Micro.{Micro}
+use Rattle.model.specs.declared.answers.Prediction.{Prediction}
+use Rattle.model.specs.Families.{labelsBy, countedBy}
+use Rattle.model.specs.ReadOut as read
+use Rattle.model.specs.ReadOut.{LabelsRead, Statistics, labelsRead, statisticsRead}
+use Rattle.model.specs.DenState.{State}
+use Rattle.model.specs.DenInsert.{fadedWeight}
+
+-- "potential centres at squared distance ≤ 4×(eps×eps) are joined"
+abbrev pub close : (eps2 : Float) → (centre other : List Float) → Bool
+close eps2 centre other = le (sqDist centre other) (ofBits binary64 0x4010_0000_0000_0000 ⊗ eps2)
+
+-- the pairs of place i with those of the list whose centres are close to its centre; the list's head has the place j
+unfoldable pub rowFrom : (eps2 : Float) → (i : ℕ) → (centre : List Float) → (j : ℕ) → List Micro → List (ℕ × ℕ)
+rowFrom eps2 i centre j [] = []
+rowFrom eps2 i centre j (m ∷ rest) =
+    cond (close eps2 centre (m .cf .mean)) ((i, j) ∷ rowFrom eps2 i centre (j + 1) rest) (rowFrom eps2 i centre (j + 1) rest)
+
+-- all pairs of close ones, the lower place first
+unfoldable pub pairsFrom : (eps2 : Float) → (i : ℕ) → List Micro → List (ℕ × ℕ)
+pairsFrom eps2 i [] = []
+pairsFrom eps2 i (m ∷ rest) = rowFrom eps2 i (m .cf .mean) (i + 1) rest ++ pairsFrom eps2 (i + 1) rest
+
+abbrev pub joinsOf : State → List (ℕ × ℕ)
+joinsOf s = pairsFrom (s .params .eps2) 0 (s .potential)
+
+-- the potential ones' weights, faded to the clock
+abbrev pub fadedWeights : State → List Float
+fadedWeights s = map (fadedWeight (s .params .lambda) (s .t)) (s .potential)
+
+unfoldable pub labelsOf : State → List ℤ
+unfolding labelsBy countedBy rowFrom pairsFrom
+labelsOf s = labelsBy (countedBy (s .params .mu) (fadedWeights s) (joinsOf s)) (joinsOf s)
+
+abbrev pub clusterOf : State → State
+clusterOf s =
+    record { params = s .params; t = s .t; potential = s .potential; outliers = s .outliers; labels = labelsOf s; drift = s .drift }
+
+-- ---- read-outs
+abbrev pub featuresOf : State → List Spherical
+featuresOf s = map (λ (m : Micro). m .cf) (s .potential)
+
+abbrev pub predictOf : State → List Float → Prediction
+predictOf s x = read.predictOf (s .params .dim) (s .params .eps2) (featuresOf s) (s .labels) x
+
+abbrev pub labelsReadOf : State → (lent : List ℤ) → LabelsRead
+labelsReadOf s lent = labelsRead (s .labels) lent
+
+abbrev pub statisticsOf : State → (centres weights radii : List Float) → Statistics
+statisticsOf s = statisticsRead (featuresOf s) (fadedWeights s)

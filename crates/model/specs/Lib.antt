@@ -1,0 +1,19 @@
+-- Document 01 as definitions, for both streams.
+pub mod Limits
+pub mod Answers
+pub mod Questions
+pub mod Any
+pub mod Fading
+pub mod Periods
+pub mod Nearest
+pub mod Families
+pub mod ReadOut
+pub mod Outcome
+pub mod Run
+pub mod DbState
+pub mod DbInsert
+pub mod DbCluster
+pub mod DenState
+pub mod DenInsert
+pub mod DenCluster
+pub mod Readings

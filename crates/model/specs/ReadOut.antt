@@ -1,0 +1,86 @@
+-- Document 01: predict, and the read-outs of both streams. Definitions only.
+use Prim.Native.Nat.{ℕ, _+_}
+use mathlib.Core.Bool.{Bool, false, not, _&&_, cond}
+use mathlib.Core.List.{List, [], _∷_, _++_, map}
+use mathlib.Core.Option.{Option, none, some}
+use lib.Dec.{eqb, leb}
+use lib.IntN.{ℤ, pos, negsuc}
+use lib.ListN.{length, getD, drop}
+use lib.Ieee.{Float, le}
+use Rattle.feature.specs.declared.spherical.Spherical.{Spherical}
+use Rattle.model.specs.declared.answers.Prediction.{Prediction}
+use Rattle.model.specs.declared.answers.Prediction.the-variants.{Label, Shape}
+use Rattle.model.specs.declared.answers.Reading.{Reading}
+use Rattle.model.specs.declared.answers.Reading.the-variants.{Written, TooShort}
+use Rattle.model.specs.Any.{any}
+use Rattle.model.specs.Questions.{firstNo}
+use Rattle.model.specs.Fading.{distanceTo, radiusOf}
+use Rattle.model.specs.Nearest.{Near, nearestOf}
+
+-- ---- predict
+-- "or the nearest .. hasn't a squared distance at most the radius squared; else its label"
+abbrev pub labelNear : (radius2 : Float) → List ℤ → Option (Near Spherical) → ℤ
+labelNear radius2 labels none = negsuc 0
+labelNear radius2 labels (some b) = cond (le (b .dist) radius2) (getD labels (b .place) (negsuc 0)) (negsuc 0)
+
+-- "−1 if label and micro-cluster counts differ, none exists, or .."
+unfoldable pub labelFor : (radius2 : Float) → List Spherical → List ℤ → (x : List Float) → ℤ
+unfolding nearestOf
+labelFor radius2 features labels x =
+    cond (eqb (length labels) (length features)) (labelNear radius2 labels (nearestOf (distanceTo x) features)) (negsuc 0)
+
+-- "predict (7 only)"
+abbrev pub predictOf : (dim : ℕ) (radius2 : Float) → List Spherical → List ℤ → (x : List Float) → Prediction
+predictOf dim radius2 features labels x =
+    firstNo ((eqb (length x) dim, Shape dim (length x)) ∷ []) (Label (labelFor radius2 features labels x))
+
+-- ---- lent slices
+-- "has every lent slice a place for each element due?"
+abbrev pub hasPlaces : {A : Type 0} → (due lent : List A) → Bool
+hasPlaces due lent = leb (length due) (length lent)
+
+-- "Elements beyond those written stay."
+abbrev pub written : {A : Type 0} → (due lent : List A) → List A
+written due lent = due ++ drop (length due) lent
+
+-- an answer, and the lent slice afterwards
+pub record LabelsRead : Type 0 where
+  pub answer : Reading
+  pub labels : List ℤ
+
+abbrev pub labelsRead : (due lent : List ℤ) → LabelsRead
+labelsRead due lent =
+    firstNo ((hasPlaces due lent, record { answer = TooShort; labels = lent }) ∷ []) (record { answer = Written; labels = written due lent })
+
+-- `n_clusters`: how many different labels there are, −1 left out
+abbrev pub sameFamily : ℤ → ℤ → Bool
+sameFamily (pos a) (pos b) = eqb a b
+sameFamily (pos a) (negsuc b) = false
+sameFamily (negsuc a) b = false
+
+unfoldable pub clustersIn : List ℤ → ℕ
+unfolding any
+clustersIn [] = 0
+clustersIn (l ∷ rest) = cond (sameFamily l l && not (any (sameFamily l) rest)) 1 0 + clustersIn rest
+
+-- ---- statistics
+pub record Statistics : Type 0 where
+  pub answer : Reading
+  pub centres : List Float
+  pub weights : List Float
+  pub radii : List Float
+
+-- the means, one after another
+unfoldable pub centresOf : List Spherical → List Float
+centresOf [] = []
+centresOf (cf ∷ rest) = cf .mean ++ centresOf rest
+
+-- "Statistics as `potential_stats` and `micro_stats`.": of features and their faded weights, into the slices lent
+abbrev pub statisticsRead : List Spherical → (faded : List Float) → (centres weights radii : List Float) → Statistics
+statisticsRead features faded centres weights radii =
+    firstNo
+    ((
+      hasPlaces (centresOf features) centres && hasPlaces faded weights && hasPlaces (map radiusOf features) radii,
+      record { answer = TooShort; centres = centres; weights = weights; radii = radii },
+    ) ∷ [])
+    (record { answer = Written; centres = written (centresOf features) centres; weights = written faded weights; radii = written (map radiusOf features) radii })

@@ -1,0 +1,38 @@
+// What both streams share: the limits, what is kept of a micro-cluster and of a link, the answers and the questions of an opening.
+mod answers;
+mod fading;
+mod limits;
+mod link;
+mod micro;
+mod params;
+mod periods;
+mod point;
+mod questions;
+
+pub use answers::Connectivity;
+pub use answers::Insertion;
+pub use answers::Opening;
+pub use answers::Prediction;
+pub use answers::Reading;
+pub use fading::absorbing;
+pub use fading::birth;
+pub use fading::faded;
+pub use fading::is_multiple;
+pub use fading::radius;
+pub use limits::CLOCK;
+pub use limits::LINKS;
+pub use limits::MICROS;
+pub use link::Link;
+pub use micro::DbMicro;
+pub use micro::Micro;
+pub use micro::MicroId;
+pub use params::Params;
+pub use periods::floor;
+pub use periods::t_gap;
+pub use periods::tp;
+pub use point::padded;
+pub use questions::asked;
+pub use questions::dim_in_range;
+pub use questions::lambda_in_range;
+pub use questions::positive;
+pub use questions::share_in_range;

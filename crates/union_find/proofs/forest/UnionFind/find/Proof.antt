@@ -1,0 +1,70 @@
+use mathlib.Core.Path.{sym, ap}
+use native.Mathlib.Omega.{arith}
+use Rattle.union_find.specs.Forest.{Found, findOf}
+use Rattle.union_find.proofs.Finding.{Turn, turn-start, turn-up, turn-next, turn-end, turn-less}
+use borrow.Author.Needs.{needs}
+use Rattle.union_find.proofs.forest.UnionFind.find.Statement.{statement}
+use Rattle.union_find.proofs.forest.UnionFind.find.Tie as tie
+
+abbrev Inv-loop : tie.InvT-loop
+Inv-loop parent₀ x at₀ parent at = Turn parent₀ x parent at
+
+abbrev μ-loop : tie.MeasureT-loop
+μ-loop parent₀ x at₀ parent at = findOf parent at .steps
+
+loop-holds : tie.Need-loop-holds Inv-loop μ-loop
+loop-holds c = turn-start (c .args .parent .now) (c .pre .0) (c .args .x) (c .pre .1)
+
+mul-if1 : tie.Need-mul-if1 Inv-loop μ-loop
+mul-if1 c = search needs
+
+element-copy-out-if1 : tie.Need-element-copy-out-if1 Inv-loop μ-loop
+element-copy-out-if1 c = search needs
+
+mul-up : tie.Need-mul-up Inv-loop μ-loop
+mul-up c = search needs
+
+element-copy-out-up : tie.Need-element-copy-out-up Inv-loop μ-loop
+element-copy-out-up c = search needs
+
+mul-grand : tie.Need-mul-grand Inv-loop μ-loop
+mul-grand c = omega (arith, turn-up (c .before .before .before .loop .inv))
+
+element-copy-out-grand : tie.Need-element-copy-out-grand Inv-loop μ-loop
+element-copy-out-grand c = turn-up (c .before .before .before .loop .inv)
+
+mul-parent : tie.Need-mul-parent Inv-loop μ-loop
+mul-parent c = search needs
+
+element-write-parent : tie.Need-element-write-parent Inv-loop μ-loop
+element-write-parent c = search needs
+
+loop-less : tie.Need-loop-less Inv-loop μ-loop
+loop-less c = turn-less (c .before .before .before .before .loop .inv) (c .before .before .if1 .taken)
+
+loop-again : tie.Need-loop-again Inv-loop μ-loop
+loop-again c = turn-next (c .before .before .before .before .loop .inv) (c .before .before .if1 .taken)
+
+returns : tie.Need-returns Inv-loop μ-loop
+returns c =
+    let e = turn-end (c .before .before .loop .inv) (c .if1 .left) in
+    (sym (ap (λ (f : Found). f .root) e), sym (ap (λ (f : Found). f .parent) e))
+
+pub find-spec : {M : Type 1} → statement M
+find-spec =
+    tie.close
+    (tie.spec
+    Inv-loop
+    μ-loop
+    loop-holds
+    mul-if1
+    element-copy-out-if1
+    mul-up
+    element-copy-out-up
+    mul-grand
+    element-copy-out-grand
+    mul-parent
+    element-write-parent
+    loop-less
+    loop-again
+    returns)

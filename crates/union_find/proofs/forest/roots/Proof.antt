@@ -1,0 +1,71 @@
+use Prim.Native.Nat.{_-_}
+use mathlib.Core.Path.{_≡_, subst}
+use native.Mathlib.Omega.{arith}
+use Rattle.union_find.specs.Pairs.{pairsOf}
+use Rattle.union_find.proofs.Joining.{Seeking, seek-start, seek-next, seek-end}
+use borrow.Author.Needs.{needs}
+use Rattle.union_find.proofs.forest.roots.Statement.{statement}
+use Rattle.union_find.proofs.forest.roots.Tie as tie
+
+abbrev Inv-loop : tie.InvT-loop
+Inv-loop a b n parent₀ roots₀ i₀ parent roots i = Seeking parent₀ parent roots i
+
+abbrev μ-loop : tie.MeasureT-loop
+μ-loop a b n parent₀ roots₀ i₀ parent roots i = 64 - i
+
+cut-requires : tie.Need-cut-requires Inv-loop μ-loop
+cut-requires c κs = search needs
+
+joined-requires : tie.Need-joined-requires Inv-loop μ-loop
+joined-requires c κs = omega arith
+
+loop-holds : tie.Need-loop-holds Inv-loop μ-loop
+loop-holds c =
+    let a = c .before .before .before .before .before .args in
+    seek-start (c .before .before .cut .result) (omega arith) (pairsOf (a .a .now) (a .b .now)) (c .before .joined .result) (c .before .joined .ensures)
+
+find-requires : tie.Need-find-requires Inv-loop μ-loop
+find-requires c κs = (c .before .before .loop .inv .ranked, omega arith)
+
+mul-roots : tie.Need-mul-roots Inv-loop μ-loop
+mul-roots c = search needs
+
+array-write-roots : tie.Need-array-write-roots Inv-loop μ-loop
+array-write-roots c = search needs
+
+add-i : tie.Need-add-i Inv-loop μ-loop
+add-i c = search needs
+
+loop-less : tie.Need-loop-less Inv-loop μ-loop
+loop-less c = search needs
+
+loop-again : tie.Need-loop-again Inv-loop μ-loop
+loop-again c =
+    let l = c .before .before .before .loop in
+    seek-next (c .before .before .before .before .before .joined .result .parent) (l .parent) (l .roots) (l .i) (l .inv) (omega arith) (c .find .result) (c .find .last .0) (c .find .ensures .0) (c .find .ensures .1)
+
+returns : tie.Need-returns Inv-loop μ-loop
+returns c =
+    let a = c .before .before .before .before .before .before .before .args in
+    let l = c .before .loop in
+    let u = c .before .before .before .joined .result in
+    let e : l .i ≡ 64 = omega arith in
+    seek-end (a .n) (c .before .before .before .before .cut .result) (c .before .before .before .before .cut .ensures) (pairsOf (a .a .now) (a .b .now)) u (c .before .before .before .joined .ensures) (l .parent) (l .roots)
+    (subst (Seeking (u .parent) (l .parent) (l .roots)) e (l .inv))
+
+pub roots-spec : {M : Type 1} → statement M
+roots-spec =
+    tie.close
+    (tie.spec
+    Inv-loop
+    μ-loop
+    cut-requires
+    joined-requires
+    loop-holds
+    find-requires
+    mul-roots
+    array-write-roots
+    add-i
+    loop-less
+    loop-again
+    returns)

@@ -1,0 +1,3 @@
+// Joined pairs of places, and the root of each place.
+pub mod forest;
+pub mod places;
