@@ -2,6 +2,7 @@
 mod bucket;
 mod cut;
 
+pub use bucket::Bucket;
 ghost use mathlib.Core.Path.{_≡_};
 ghost use mathlib.Core.Bool.{_&&_, false};
 ghost use Prim.Native.Nat.{_+_, _<_, _≤_};
@@ -15,26 +16,25 @@ ghost use Rattle.adwin.specs.Cut.{bucketsOf, mustDrop, someFails, varian
 ghost use Rattle.adwin.specs.Window.{clamped, meanOf, newOf, shrunk, updateOf, varianceOf, varianceWith, widthOf};
 ghost use Rattle.adwin.specs.View.{heldOf, numberOf, rings, sumsOf, told, view};
 ghost use Rattle.adwin.specs.Inside.{oldestDropped, withHeld};
-use bucket::Bucket;
 use bucket::next_class;
 use cut::cut_fails;
 
 // Places for buckets. 65,535 values fill at most 80, with 6 in each class; one more is for the newest.
-const PLACES: usize = 81;
+pub const PLACES: usize = 81;
 
 // The window. The buckets are the first `count` of the array, oldest first, each with its class:
 // a bucket of class c has 2^c values.
 pub struct Adwin {
-    delta: f64,
-    buckets: [Bucket; PLACES],
-    classes: [u8; PLACES],
-    count: usize,
-    width: f64,
-    total: f64,
-    variance: f64,
+    pub delta: f64,
+    pub buckets: [Bucket; PLACES],
+    pub classes: [u8; PLACES],
+    pub count: usize,
+    pub width: f64,
+    pub total: f64,
+    pub variance: f64,
     // Values taken since the last cut search, and ever.
-    since_check: u64,
-    taken: u64,
+    pub since_check: u64,
+    pub taken: u64,
 }
 
 // The answer to an update: no change seen, a change seen, or the value refused because 65,535 were taken.
@@ -214,19 +214,19 @@ impl Adwin {
         let mut i = n;
         let mut k = 0;
         while i > 0 {
-            let j = i - 1;
-            let class = self.classes[i];
-            if self.classes[j] != class {
+            let j = i;
+            i -= 1;
+            let class = self.classes[j];
+            if self.classes[i] != class {
                 i = 0;
             } else if k + 2 > Adwin::CAP {
-                let older = self.buckets[j];
-                let newer = self.buckets[i];
-                let both = older.merged(newer);
+                let older = self.buckets[i];
+                let newer = self.buckets[j];
+                self.buckets[i] = older.merged(newer);
                 let next = next_class(class);
-                self.buckets[j] = both;
-                self.classes[j] = next;
+                self.classes[i] = next;
                 let m = self.count - 1;
-                let mut q = i;
+                let mut q = j;
                 while q < m {
                     let p = q + 1;
                     let b = self.buckets[p];
@@ -236,10 +236,8 @@ impl Adwin {
                     q = p;
                 }
                 self.count = m;
-                i = j;
                 k = 0;
             } else {
-                i = j;
                 k += 1;
             }
         }

@@ -25,10 +25,10 @@ pub struct DriftReport {
 }
 
 pub struct DriftMonitor {
-    adwin: Adwin,
-    radius: f64,
-    alarms: u64,
-    last_alarm: LastAlarm,
+    pub adwin: Adwin,
+    pub radius: f64,
+    pub alarms: u64,
+    pub last_alarm: LastAlarm,
 }
 
 impl DriftMonitor {

@@ -1,5 +1,5 @@
 -- Labels tell the families, and count from 0 by first member. Assumes nothing.
-use Prim.Native.Nat.{ℕ, zero, suc, _+_, _<_, _≤_}
+use Prim.Native.Nat.{ℕ, zero, suc, _+_, _-_, _<_, _≤_, min}
 use mathlib.Core.Path.{_≡_, refl, sym, _∙_, ap}
 use mathlib.Core.Logic.{_↔_, _⊎_, inl, inr, ⊎-elim, by-cases}
 use mathlib.Core.Bool.{Bool, true, false, cond, true≢false}
@@ -7,12 +7,13 @@ use mathlib.Core.List.{List, [], _∷_, _++_, append-nil, append-assoc}
 use native.Mathlib.Omega.{arith}
 use native.Mathlib.Decide.{ℕ-discrete, decLt}
 use lib.IntN.{ℤ, pos, negsuc}
-use lib.ListN.{length, getD, length-append}
+use lib.ListN.{length, take, getD, replicate, length-append}
+use lib.Seq.{take-at, length-take-le}
 use borrow.Author.Tests.{eq-eqb, ne-eqb, lt-ltb, le-ltb}
 use Rattle.union_find.specs.Pairs.{Joined, Chain}
 use Rattle.union_find.specs.Forest.{rootsOf}
 use Rattle.union_find.specs.RootLaws.{RootsTell, roots-tell}
-use Rattle.labels.specs.Label.{placeIn, meet, labelsFrom, labelsOf}
+use Rattle.labels.specs.Label.{placeIn, meet, labelsFrom, labelsOf, labelsIn}
 
 -- ---- the place of a root among the roots met
 pub place-le : (v : ℕ) (us : List ℕ) → placeIn v us ≤ length us
@@ -226,3 +227,10 @@ labels-tell n hn es mask size =
         in-at i hi (w .0) .1
         ∙ ap (λ (v : ℕ). pos (placeIn v (allMet [] mask roots))) (tell .equal i j (omega arith) (omega arith) .1 (w .2))
         ∙ sym (in-at j hj (w .1) .1))
+
+-- of the array that `labels` gives, the first n are these
+pub labels-first : (roots : List ℕ) (mask : List Bool) (n : ℕ) → n ≤ 64 → length mask ≡ 64 → length roots ≡ 64 → take n (labelsIn roots mask n) ≡ labelsOf (take n mask) roots
+unfolding labelsIn labelsOf
+labels-first roots mask n hn lm lr =
+    let size : length (take n mask) ≡ n = length-take-le n mask (omega arith) in
+    take-at (labelsFrom [] (take n mask) roots) (replicate (64 - min n 64) (negsuc 0)) n (labels-length [] (take n mask) roots (omega arith) ∙ size)

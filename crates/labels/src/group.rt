@@ -1,6 +1,6 @@
 // Sums of weights by root.
-use union_find::places::PLACES;
-use union_find::places::cut;
+use lists::cut;
+use union_find::PLACES;
 ghost use mathlib.Core.Path.{_≡_};
 ghost use lib.ListN.{take};
 ghost use Rattle.labels.specs.Group.{sumsOf};

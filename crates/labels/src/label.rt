@@ -1,6 +1,6 @@
 // Labels of places by the root of each.
-use union_find::places::PLACES;
-use union_find::places::cut;
+use lists::cut;
+use union_find::PLACES;
 ghost use mathlib.Core.Path.{_≡_};
 ghost use Prim.Native.Nat.{_≤_};
 ghost use lib.IntN.{pos};

@@ -1,3 +1,6 @@
 // Places that each have a root: their labels, and sums of their weights.
-pub mod group;
-pub mod label;
+mod group;
+mod label;
+
+pub use group::sums;
+pub use label::labels;

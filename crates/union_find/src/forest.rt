@@ -1,6 +1,6 @@
 // `UnionFind` by rank with path halving, and the roots after a list of pairs was joined.
-use crate::places::PLACES;
-use crate::places::cut;
+use crate::PLACES;
+use lists::cut;
 ghost use mathlib.Core.Path.{_≡_};
 ghost use Prim.Native.Nat.{_<_, _≤_};
 ghost use Rattle.union_find.specs.Pairs.{pairsOf};

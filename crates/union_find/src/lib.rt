@@ -1,3 +1,7 @@
 // Joined pairs of places, and the root of each place.
-pub mod forest;
-pub mod places;
+mod forest;
+
+pub use forest::roots;
+
+// How many places there are.
+pub const PLACES: usize = 64;

@@ -10,7 +10,7 @@ use Rattle.adwin.proofs.Adwin.push_bucket.Statement.{statement}
 use Rattle.adwin.proofs.Adwin.push_bucket.Tie as tie
 
 abbrev Inv-loop2 : tie.InvT-loop2
-Inv-loop2 self₀ n i k j class next m q₀ self q = Closing self₀ i m self q
+Inv-loop2 self₀ n i k j class next m q₀ self q = Closing self₀ j m self q
 
 abbrev μ-loop2 : tie.MeasureT-loop2
 μ-loop2 self₀ n i k j class next m q₀ self q = m - q
@@ -42,8 +42,8 @@ add-self c = search needs
 loop-holds : tie.Need-loop-holds Inv-loop2 μ-loop2 Inv-loop μ-loop
 loop-holds c = walk-starts _ (simp length-set (buckets-room c)) (simp length-set (classes-room c)) _ (omega arith) (omega arith)
 
-sub-j : tie.Need-sub-j Inv-loop2 μ-loop2 Inv-loop μ-loop
-sub-j c = search needs
+sub-i : tie.Need-sub-i Inv-loop2 μ-loop2 Inv-loop μ-loop
+sub-i c = search needs
 
 element-copy-out-class : tie.Need-element-copy-out-class Inv-loop2 μ-loop2 Inv-loop μ-loop
 element-copy-out-class c = search needs
@@ -77,14 +77,14 @@ element-copy-out-newer c = search needs
 merged-requires : tie.Need-merged-requires Inv-loop2 μ-loop2 Inv-loop μ-loop
 merged-requires c κs = search needs
 
+mul-t30 : tie.Need-mul-t30 Inv-loop2 μ-loop2 Inv-loop μ-loop
+mul-t30 c = search needs
+
+element-set-from-self : tie.Need-element-set-from-self Inv-loop2 μ-loop2 Inv-loop μ-loop
+element-set-from-self c = search needs
+
 next-class-requires : tie.Need-next-class-requires Inv-loop2 μ-loop2 Inv-loop μ-loop
 next-class-requires c κs = search needs
-
-mul-both : tie.Need-mul-both Inv-loop2 μ-loop2 Inv-loop μ-loop
-mul-both c = search needs
-
-element-set-from-both : tie.Need-element-set-from-both Inv-loop2 μ-loop2 Inv-loop μ-loop
-element-set-from-both c = search needs
 
 element-write-self-2 : tie.Need-element-write-self-2 Inv-loop2 μ-loop2 Inv-loop μ-loop
 element-write-self-2 c = search needs
@@ -161,7 +161,7 @@ push-bucket-spec =
     element-write-self
     add-self
     loop-holds
-    sub-j
+    sub-i
     element-copy-out-class
     element-copy-out-if1
     loop-less
@@ -172,9 +172,9 @@ push-bucket-spec =
     mul-newer
     element-copy-out-newer
     merged-requires
+    mul-t30
+    element-set-from-self
     next-class-requires
-    mul-both
-    element-set-from-both
     element-write-self-2
     sub-m
     loop2-holds

@@ -1,13 +1,12 @@
-use mathlib.Core.Path.{sym}
+-- `sums` meets its contract. The loop's invariant: adding the places left to the sums gives the whole (`Summing`). Assumes nothing.
+use Prim.Native.Nat.{_+_, _-_}
+use mathlib.Core.Path.{sym, _≡_, subst}
 use mathlib.Core.List.{List}
-use lib.Ieee.{Float}
-use Prim.Native.Nat.{_+_}
-use Prim.Native.Nat.{_-_}
-use mathlib.Core.Path.{_≡_, subst}
 use mathlib.Core.Logic.{⊎-elim}
 use native.Mathlib.Omega.{arith}
-use Rattle.labels.proofs.Summing.{Summing, sums-start, sums-take, sums-pass, sums-end}
 use borrow.Author.Needs.{needs}
+use lib.Ieee.{Float}
+use Rattle.labels.proofs.Summing.{Summing, sums-start, sums-take, sums-pass, sums-end}
 use Rattle.labels.proofs.group.sums.Statement.{statement}
 use Rattle.labels.proofs.group.sums.Tie as tie
 

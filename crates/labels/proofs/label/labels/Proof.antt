@@ -1,15 +1,13 @@
-use lib.ListN.{getD}
-use mathlib.Core.Path.{_∙_}
-use borrow.Author.Needs.{sfits-of}
-use mir.Syntax.{w64}
-use mir.Facts.{toZ-ofZ}
-use Rattle.labels.proofs.Labelling.{place-most}
+-- `labels` meets its contract. The loop's invariant: the labels written, and those that the places left will get, are the whole (`Labelling`). Assumes nothing.
 use Prim.Native.Nat.{_-_}
-use mathlib.Core.Path.{_≡_, subst}
+use mathlib.Core.Path.{_∙_, _≡_, subst}
 use mathlib.Core.Logic.{⊎-elim}
 use native.Mathlib.Omega.{arith}
-use Rattle.labels.proofs.Labelling.{Labelling, labels-start, label-out, label-old, label-new, labels-end}
-use borrow.Author.Needs.{needs}
+use borrow.Author.Needs.{sfits-of, needs}
+use mir.Syntax.{w64}
+use mir.Facts.{toZ-ofZ}
+use lib.ListN.{getD}
+use Rattle.labels.proofs.Labelling.{place-most, Labelling, labels-start, label-out, label-old, label-new, labels-end}
 use Rattle.labels.proofs.label.labels.Statement.{statement}
 use Rattle.labels.proofs.label.labels.Tie as tie
 

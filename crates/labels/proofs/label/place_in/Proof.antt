@@ -1,10 +1,11 @@
+-- `place_in` meets its contract. The loop's invariant: the places passed, and the place among those left, are the place. Assumes nothing.
 use Prim.Native.Nat.{_+_, _-_, _≤_}
 use mathlib.Core.Path.{_≡_}
 use native.Mathlib.Omega.{arith}
+use borrow.Author.Needs.{needs}
 use lib.ListN.{take, drop}
 use Rattle.labels.specs.Label.{placeIn}
 use Rattle.labels.proofs.Labelling.{place-here, place-next, place-none}
-use borrow.Author.Needs.{needs}
 use Rattle.labels.proofs.label.place_in.Statement.{statement}
 use Rattle.labels.proofs.label.place_in.Tie as tie
 

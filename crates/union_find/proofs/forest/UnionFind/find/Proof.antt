@@ -1,8 +1,9 @@
+-- `find` meets its contract. The loop's invariant: where it stands is some halving steps from the start (`Turn`). The measure: the steps that are left. Assumes nothing.
 use mathlib.Core.Path.{sym, ap}
 use native.Mathlib.Omega.{arith}
+use borrow.Author.Needs.{needs}
 use Rattle.union_find.specs.Forest.{Found, findOf}
 use Rattle.union_find.proofs.Finding.{Turn, turn-start, turn-up, turn-next, turn-end, turn-less}
-use borrow.Author.Needs.{needs}
 use Rattle.union_find.proofs.forest.UnionFind.find.Statement.{statement}
 use Rattle.union_find.proofs.forest.UnionFind.find.Tie as tie
 

@@ -1,3 +1,4 @@
+-- `join` meets its contract: a union where both places are below n. Assumes nothing.
 use mathlib.Core.Path.{sym, _∙_}
 use native.Mathlib.Omega.{arith}
 use Rattle.union_find.specs.RootLaws.{join-in, join-out}

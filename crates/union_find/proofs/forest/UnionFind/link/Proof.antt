@@ -1,8 +1,8 @@
+-- `link` meets its contract: each way out is one of the four ways of `linkOf`. Assumes nothing.
 use mathlib.Core.Path.{sym}
 use native.Mathlib.Omega.{arith}
+use borrow.Author.Needs.{needs}
 use Rattle.union_find.specs.UnionLaws.{link-same, link-less, link-more, link-equal}
-use borrow.Author.Needs.{needs}
-use borrow.Author.Needs.{needs}
 use Rattle.union_find.proofs.forest.UnionFind.link.Statement.{statement}
 use Rattle.union_find.proofs.forest.UnionFind.link.Tie as tie
 

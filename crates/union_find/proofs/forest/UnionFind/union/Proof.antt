@@ -1,3 +1,4 @@
+-- `union` meets its contract: two finds and a link. Assumes nothing.
 use mathlib.Core.Path.{_∙_}
 use Rattle.union_find.proofs.Finding.{found-well, found-low, unioned}
 use Rattle.union_find.proofs.forest.UnionFind.union.Statement.{statement}

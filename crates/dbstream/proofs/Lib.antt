@@ -1,0 +1,5 @@
+pub mod Openings
+pub mod Ticks
+pub mod Inserts
+pub mod Labels
+pub mod Readings

@@ -1,0 +1,32 @@
+// Families: strong micro-clusters, joined by dense links.
+use crate::DbStream;
+use joins::joined;
+use model::MICROS;
+ghost use mathlib.Core.Path.{_≡_};
+ghost use Rattle.model.specs.DbCluster.{clusterOf};
+ghost use Rattle.dbstream.specs.Stream.{view};
+
+impl DbStream {
+    // Labels by first member; weights and links are taken as faded to the clock, and stay as stored.
+    pub fn cluster(mut self) -> Self
+        ensures { λ r. ⌜ view r ≡ clusterOf (view self) ⌝ }
+    {
+        let n = lists::cut(self.count, MICROS);
+        let lambda = self.lambda;
+        let t = self.t;
+        let micros = self.micros;
+        let strong = micro::strong_ones(micros, n, lambda, t, self.min_weight);
+        let ids = micro::ids_of(micros, n);
+        let dense = self.alpha * self.min_weight;
+        let links = self.links;
+        let pairs = joined(links, self.link_count, ids, strong, n, lambda, t, dense);
+        let a = pairs.a;
+        let b = pairs.b;
+        let k = pairs.count;
+        let roots = union_find::roots(&a[..k], &b[..k], n);
+        let labels = labels::labels(roots, strong, n);
+        self.labels = labels;
+        self.label_count = n;
+        self
+    }
+}

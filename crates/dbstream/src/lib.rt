@@ -1,0 +1,35 @@
+// DBSTREAM (Hahsler and Bolaños): micro-clusters that fade, joined by shared density.
+mod cluster;
+mod insert;
+mod opening;
+mod reading;
+mod tick;
+
+use drift::DriftMonitor;
+pub use insert::Inserted;
+use model::DbMicro;
+use model::LINKS;
+use model::Link;
+use model::MICROS;
+pub use opening::Opened;
+
+// The arrays hold as many elements as their counts say; links stand in the order of their ends' creation numbers.
+pub struct DbStream {
+    pub dim: usize,
+    pub r: f64,
+    pub lambda: f64,
+    pub alpha: f64,
+    pub min_weight: f64,
+    // The ticks between cleanups, and the faded weight that survives them.
+    pub t_gap: f64,
+    pub floor: f64,
+    pub t: f64,
+    pub next_id: u64,
+    pub micros: [DbMicro; MICROS],
+    pub count: usize,
+    pub links: [Link; LINKS],
+    pub link_count: usize,
+    pub labels: [i64; MICROS],
+    pub label_count: usize,
+    pub drift: DriftMonitor,
+}

@@ -1,0 +1,111 @@
+// What a stream says of itself.
+use crate::DbStream;
+use drift::DriftReport;
+use feature::MAX_DIM;
+use model::Connectivity;
+use model::MICROS;
+use model::MicroId;
+use model::Prediction;
+use model::Reading;
+ghost use mathlib.Core.Path.{_≡_};
+ghost use lib.ListN.{length};
+ghost use Rattle.drift.specs.Monitor.{reportOf};
+ghost use Rattle.model.specs.ReadOut.{clustersIn};
+ghost use Rattle.model.specs.DbCluster.{predictOf, labelsReadOf, statisticsOf, connectivityOf};
+ghost use Rattle.readout.specs.Told.{labelsTold, statisticsTold};
+ghost use Rattle.dbstream.specs.Stream.{view};
+
+impl DbStream {
+    pub fn dim(self) -> usize
+        ensures { λ r. ⌜ r ≡ view self .settings .dim ⌝ }
+    {
+        lists::cut(self.dim, MAX_DIM)
+    }
+
+    pub fn micro_count(self) -> usize
+        ensures { λ r. ⌜ r ≡ length (view self .micros) ⌝ }
+    {
+        lists::cut(self.count, MICROS)
+    }
+
+    pub fn drift(self) -> DriftReport
+        ensures { λ r. ⌜ r ≡ reportOf (view self .drift) ⌝ }
+    {
+        let monitor = self.drift;
+        monitor.report()
+    }
+
+    // The labels of the last cluster, into a lent slice; none after an insert.
+    pub fn labels(self, out: &mut [i64]) -> Reading
+        ensures { λ r. ⌜ labelsTold r (now (out .exit)) ≡ labelsReadOf (view self) (now (out .entry)) ⌝ }
+    {
+        let labels = self.labels;
+        readout::read_labels(labels, self.label_count, out)
+    }
+
+    // How many families these labels name.
+    pub fn n_clusters(self) -> usize
+        ensures { λ r. ⌜ r ≡ clustersIn (view self .labels) ⌝ }
+    {
+        let labels = self.labels;
+        readout::n_clusters(labels, self.label_count)
+    }
+
+    // The label of the nearest micro-cluster, if it is no farther than r.
+    pub fn try_predict(self, x: &[f64]) -> Prediction
+        ensures { λ r. ⌜ r ≡ predictOf (view self) (now (x .entry)) ⌝ }
+    {
+        let dim = lists::cut(self.dim, MAX_DIM);
+        let got = x.len();
+        if got != dim {
+            return Prediction::Shape { expected: dim, got };
+        }
+        let p = model::padded(x);
+        let micros = self.micros;
+        let ds = micro::distances(micros, self.count, p, dim);
+        let labels = self.labels;
+        let r2 = self.r * self.r;
+        let label = readout::label_for(ds, self.count, labels, self.label_count, r2);
+        Prediction::Label(label)
+    }
+
+    // The means one after another, the faded weights and the radii, into lent slices.
+    pub fn micro_stats(self, centres: &mut [f64], weights: &mut [f64], radii: &mut [f64]) -> Reading
+        ensures { λ r. ⌜ statisticsTold r (now (centres .exit)) (now (weights .exit)) (now (radii .exit)) ≡ statisticsOf (view self) (now (centres .entry)) (now (weights .entry)) (now (radii .entry)) ⌝ }
+    {
+        let dim = lists::cut(self.dim, MAX_DIM);
+        let micros = self.micros;
+        let features = micro::features(micros, self.count);
+        let faded = micro::faded_weights(micros, self.count, self.lambda, self.t);
+        readout::statistics(features, faded, self.count, dim, centres, weights, radii)
+    }
+
+    // The faded link of two live micro-clusters over the mean of their stored weights.
+    pub fn connectivity(self, a: MicroId, b: MicroId) -> Connectivity
+        ensures { λ r. ⌜ r ≡ connectivityOf (view self) a b ⌝ }
+    {
+        let micros = self.micros;
+        let ids = micro::ids_of(micros, self.count);
+        if link::is_among(ids, self.count, a) {
+            if link::is_among(ids, self.count, b) {
+                if a.0 != b.0 {
+                    let wa = micro::stored_weight(micros, self.count, a);
+                    let wb = micro::stored_weight(micros, self.count, b);
+                    let mean = (wa + wb) / 2.0;
+                    let links = self.links;
+                    let density = link::connectivity(
+                        links,
+                        self.link_count,
+                        a,
+                        b,
+                        mean,
+                        self.lambda,
+                        self.t,
+                    );
+                    return Connectivity::Density(density);
+                }
+            }
+        }
+        Connectivity::NotLive
+    }
+}

@@ -1,0 +1,98 @@
+-- The definitions of the least distance, the neighbours, the absorption and the stored weight, as a counting loop goes through them.
+use Prim.Native.Nat.{ℕ, _+_, _≤_, _<_, min}
+use native.Mathlib.Numerals.{add-one}
+use native.Mathlib.Omega.{arith}
+use mathlib.Core.Path.{_≡_}
+use mathlib.Core.Logic.{_≢_}
+use mathlib.Core.List.{List, _++_, foldl, append-nil}
+use mathlib.Core.Bool.{true, false}
+use borrow.Author.Tests.{eq-eqb, ne-eqb}
+use lib.Ieee.{Float, nan, le}
+use lib.ListN.{length, take, getD, set}
+use lib.Seq.{take-suc, take-suc-set, append-snoc}
+use Rattle.float.specs.Rounded.{nought}
+use Rattle.float.specs.Order.{smaller}
+use Rattle.lists.specs.Rest.{rest, rest-start, rest-step, rest-end, rest-set, cut-take}
+use Rattle.drift.specs.declared.Nearest.the-variants.{Nothing, Distance}
+use Rattle.feature.specs.declared.spherical.Spherical.{Spherical}
+use Rattle.feature.specs.Feature.{maxDim}
+use Rattle.model.specs.declared.micro.MicroId.{MicroId}
+use Rattle.model.specs.declared.micro.DbMicro.{DbMicro}
+use Rattle.model.specs.Fading.{absorbing, birth}
+use Rattle.model.specs.DbInsert.{leastOf, absorbs, newborn}
+use Rattle.model.specs.DbCluster.{storedWeight}
+use Rattle.micro.specs.Near.{nearIds, absorbNear}
+
+-- ---- the least distance
+module _ (n k : ℕ) (ds : List Float) (e : k ≡ min n 64) (l : length ds ≡ 64) where
+  pub least-none : k ≡ 0 → leastOf (take n ds) ≡ Nothing
+  unfolding leastOf
+  least-none h = rw (← cut-take k n 64 ds e l, h)
+
+  pub least-start : 0 < k → Distance (foldl smaller (getD ds 0 nan) (rest k 1 ds)) ≡ leastOf (take n ds)
+  unfolding leastOf
+  least-start h =
+      let b : k ≤ length ds = omega arith in
+      rw (← cut-take k n 64 ds e l, ← rest-start k ds, rest-step k 0 ds nan)
+
+-- ---- the neighbours' creation numbers
+module _ (r2 : Float) (n i : ℕ) (ds : List Float) (ms : List DbMicro) (z : DbMicro) (h : i < n) (kd : n ≤ length ds) (km : n ≤ length ms) (k : ℕ) (ids : List MicroId) where
+  pub near-take :
+      (v : MicroId) → k < length ids → v ≡ getD ms i z .id → le (getD ds i nan) r2 ≡ true →
+      take (k + 1) (set ids k v) ++ nearIds r2 (rest n (i + 1) ds) (rest n (i + 1) ms) ≡ take k ids ++ nearIds r2 (rest n i ds) (rest n i ms)
+  unfolding nearIds
+  near-take v o e t = rw (rest-step n i ds nan, rest-step n i ms z, t, ← e, add-one, take-suc-set ids k v, append-snoc (take k ids) v)
+
+  pub near-skip :
+      le (getD ds i nan) r2 ≡ false →
+      take k ids ++ nearIds r2 (rest n (i + 1) ds) (rest n (i + 1) ms) ≡ take k ids ++ nearIds r2 (rest n i ds) (rest n i ms)
+  unfolding nearIds
+  near-skip t = rw (rest-step n i ds nan, rest-step n i ms z, t)
+
+pub near-end : (r2 : Float) (n i : ℕ) (ds : List Float) (ms : List DbMicro) (k : ℕ) (ids : List MicroId) → n ≤ i → take k ids ++ nearIds r2 (rest n i ds) (rest n i ms) ≡ take k ids
+unfolding nearIds
+near-end r2 n i ds ms k ids h = rw (rest-end n i ds) (append-nil (take k ids))
+
+-- ---- absorption in place
+module _ (r2 : Float) (f : DbMicro → DbMicro) (n i : ℕ) (ds : List Float) (ms : List DbMicro) (z : DbMicro) (h : i < n) (kd : n ≤ length ds) (km : n ≤ length ms) where
+  pub absorb-take :
+      (v : DbMicro) → v ≡ f (getD ms i z) → le (getD ds i nan) r2 ≡ true →
+      take (i + 1) (set ms i v) ++ absorbNear r2 f (rest n (i + 1) ds) (rest n (i + 1) (set ms i v)) ≡ take i ms ++ absorbNear r2 f (rest n i ds) (rest n i ms)
+  unfolding absorbNear
+  absorb-take v e t =
+      let q : i < length ms = omega arith in
+      let b : i < i + 1 = omega arith in
+      rw (rest-step n i ds nan, rest-step n i ms z, t, ← e, rest-set n (i + 1) ms i v, add-one, take-suc-set ms i v, append-snoc (take i ms) v)
+
+  pub absorb-skip :
+      le (getD ds i nan) r2 ≡ false →
+      take (i + 1) ms ++ absorbNear r2 f (rest n (i + 1) ds) (rest n (i + 1) ms) ≡ take i ms ++ absorbNear r2 f (rest n i ds) (rest n i ms)
+  unfolding absorbNear
+  absorb-skip t =
+      let q : i < length ms = omega arith in
+      rw (rest-step n i ds nan, rest-step n i ms z, t, add-one, take-suc ms i z, append-snoc (take i ms) (getD ms i z))
+
+pub absorb-end : (r2 : Float) (f : DbMicro → DbMicro) (n i : ℕ) (ds : List Float) (ms : List DbMicro) → n ≤ i → take i ms ++ absorbNear r2 f (rest n i ds) (rest n i ms) ≡ take i ms
+unfolding absorbNear
+absorb-end r2 f n i ds ms h = rw (rest-end n i ds, rest-end n i ms) (append-nil (take i ms))
+
+-- ---- a micro-cluster put together from its parts
+pub absorbs-is : (lambda t : Float) (x : List Float) (m : DbMicro) (cf : Spherical) → cf ≡ absorbing lambda t (m .last) x (m .cf) → record { cf = cf; last = t; id = m .id } ≡ absorbs lambda t x m
+absorbs-is lambda t x m cf e = rw e
+
+pub newborn-is : (x : List Float) (t : Float) (id : MicroId) (cf : Spherical) → cf ≡ birth maxDim x → record { cf = cf; last = t; id = id } ≡ newborn maxDim id t x
+newborn-is x t id cf e = rw e
+
+-- ---- the stored weight
+module _ (id : MicroId) (n i : ℕ) (ms : List DbMicro) where
+  pub weight-here : (z : DbMicro) → i < n → n ≤ length ms → getD ms i z .id .0 ≡ id .0 → storedWeight (rest n i ms) id ≡ getD ms i z .cf .w
+  unfolding storedWeight
+  weight-here z h g e = rw (rest-step n i ms z, eq-eqb _ _ e)
+
+  pub weight-next : (z : DbMicro) → i < n → n ≤ length ms → getD ms i z .id .0 ≢ id .0 → storedWeight (rest n (i + 1) ms) id ≡ storedWeight (rest n i ms) id
+  unfolding storedWeight
+  weight-next z h g e = rw (rest-step n i ms z, ne-eqb _ _ e)
+
+  pub weight-end : n ≤ i → storedWeight (rest n i ms) id ≡ nought
+  unfolding storedWeight
+  weight-end h = rw (rest-end n i ms)

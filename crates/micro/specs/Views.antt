@@ -1,0 +1,78 @@
+-- What is done to the micro-clusters of an array is done to those of dim coordinates that they are. Assumes nothing.
+use Prim.Native.Nat.{ℕ, _+_, _≤_, _<_}
+use native.Mathlib.Numerals.{add-one}
+use mathlib.Core.Path.{_≡_, refl, ap, ap₂, _∙_}
+use mathlib.Core.List.{List, [], _∷_, _++_, map}
+use mathlib.Core.Bool.{Bool, true, false, cond}
+use lib.Dec.{eqb}
+use lib.Ieee.{Float}
+use lib.ListN.{length, take, set}
+use lib.Seq.{take-suc-set}
+use Rattle.float.specs.Rounded.{_⊗_}
+use Rattle.lists.specs.Retain.{retain}
+use Rattle.lists.specs.Maps.{map-append, map-retain}
+use Rattle.feature.specs.declared.spherical.Spherical.{Spherical}
+use Rattle.feature.specs.Feature.{maxDim, empty, decayed, pushed}
+use Rattle.feature.specs.Fade.{fadeOf}
+use Rattle.feature.specs.Within.{pushed-within, empty-within}
+use Rattle.model.specs.declared.micro.MicroId.{MicroId}
+use Rattle.model.specs.declared.micro.DbMicro.{DbMicro}
+use Rattle.model.specs.DbInsert.{isNeighbour, absorbs, absorbed, newborn, idOf, microStays}
+use Rattle.model.specs.DbCluster.{storedWeight}
+use Rattle.micro.specs.Held.{cutTo, distancesTo}
+use Rattle.micro.specs.Near.{nearIds, absorbNear}
+
+pub map-map : {A B C : Type 0} (f : B → C) (g : A → B) (l : List A) → map f (map g l) ≡ map (λ (a : A). f (g a)) l
+map-map f g [] = refl
+map-map f g (x ∷ xs) = ap (λ r. f (g x) ∷ r) (map-map f g xs)
+
+-- ---- the neighbours
+pub ids-view :
+    (d : ℕ) (x : List Float) (r : Float) (l : List DbMicro) →
+    nearIds (r ⊗ r) (distancesTo x (map (cutTo d) l)) l ≡ map idOf (retain (isNeighbour r x) (map (cutTo d) l))
+unfolding nearIds retain
+ids-view d x r [] = refl
+ids-view d x r (m ∷ ms) = go (isNeighbour r x (cutTo d m)) (ids-view d x r ms)
+  where
+    go :
+        (b : Bool) → nearIds (r ⊗ r) (distancesTo x (map (cutTo d) ms)) ms ≡ map idOf (retain (isNeighbour r x) (map (cutTo d) ms)) →
+        cond b (m .id ∷ nearIds (r ⊗ r) (distancesTo x (map (cutTo d) ms)) ms) (nearIds (r ⊗ r) (distancesTo x (map (cutTo d) ms)) ms)
+        ≡ map idOf (cond b (cutTo d m ∷ retain (isNeighbour r x) (map (cutTo d) ms)) (retain (isNeighbour r x) (map (cutTo d) ms)))
+    go true e = ap (λ (q : List MicroId). m .id ∷ q) e
+    go false e = e
+
+-- ---- a point of as many coordinates
+module _ (d : ℕ) (x : List Float) (e : length x ≡ d) where
+  absorbs-view : (lambda t : Float) (m : DbMicro) → cutTo d (absorbs lambda t x m) ≡ absorbs lambda t x (cutTo d m)
+  absorbs-view lambda t m =
+      ap (λ (s : Spherical). record { cf = s; last = t; id = m .id }) (pushed-within d (decayed (m .cf) (fadeOf lambda t (m .last))) x e)
+
+  pub absorb-view :
+      (r lambda t : Float) (l : List DbMicro) →
+      map (cutTo d) (absorbNear (r ⊗ r) (absorbs lambda t x) (distancesTo x (map (cutTo d) l)) l) ≡ map (absorbed r lambda t x) (map (cutTo d) l)
+  unfolding absorbNear
+  absorb-view r lambda t [] = refl
+  absorb-view r lambda t (m ∷ ms) = ap₂ _∷_ (one (isNeighbour r x (cutTo d m))) (absorb-view r lambda t ms)
+    where
+      one : (b : Bool) → cutTo d (cond b (absorbs lambda t x m) m) ≡ cond b (absorbs lambda t x (cutTo d m)) (cutTo d m)
+      one true = absorbs-view lambda t m
+      one false = refl
+
+  pub newborn-view : d ≤ maxDim → (t : Float) (id : MicroId) → cutTo d (newborn maxDim id t x) ≡ newborn d id t x
+  newborn-view h t id =
+      ap (λ (s : Spherical). record { cf = s; last = t; id = id }) (pushed-within d (empty maxDim) x e ∙ ap (λ (s : Spherical). pushed s x) (empty-within d h))
+
+-- a new one at the end
+pub appended :
+    (d n : ℕ) (l : List DbMicro) (m : DbMicro) → n < length l → map (cutTo d) (take (n + 1) (set l n m)) ≡ map (cutTo d) (take n l) ++ cutTo d m ∷ []
+appended d n l m h = rw (add-one, take-suc-set l n m) (map-append (cutTo d) (take n l) (m ∷ []))
+
+-- ---- the cleanup
+pub stays-view : (d : ℕ) (lambda floor t : Float) (l : List DbMicro) → map (cutTo d) (retain (microStays lambda floor t) l) ≡ retain (microStays lambda floor t) (map (cutTo d) l)
+stays-view d lambda floor t l = map-retain (cutTo d) (microStays lambda floor t) l
+
+-- ---- a stored weight
+pub weight-view : (d : ℕ) (l : List DbMicro) (id : MicroId) → storedWeight l id ≡ storedWeight (map (cutTo d) l) id
+unfolding storedWeight
+weight-view d [] id = refl
+weight-view d (m ∷ ms) id = ap (λ (w : Float). cond (eqb (m .id .0) (id .0)) (m .cf .w) w) (weight-view d ms id)

@@ -1,0 +1,22 @@
+// DBSTREAM's micro-clusters: an array of 64 and a count. What a point or a cleanup does to them.
+mod absorption;
+mod cleanup;
+mod distance;
+mod identity;
+mod neighbour;
+mod weight;
+
+pub use absorption::absorb;
+pub use absorption::absorbed;
+pub use absorption::newborn;
+pub use cleanup::Micros;
+pub use cleanup::retained;
+pub use distance::distances;
+pub use distance::least;
+pub use identity::features;
+pub use identity::ids_of;
+pub use neighbour::Ids;
+pub use neighbour::neighbours;
+pub use weight::faded_weights;
+pub use weight::stored_weight;
+pub use weight::strong_ones;

@@ -1,0 +1,6 @@
+pub mod Search
+pub mod Copies
+pub mod Counting
+pub mod Centres
+pub mod Labelled
+pub mod Slices

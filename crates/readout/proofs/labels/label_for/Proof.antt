@@ -1,0 +1,63 @@
+-- `label_for` meets its contract. Assumes nothing.
+use native.Mathlib.Omega.{arith}
+use borrow.Author.Needs.{needs, sfits-of}
+use mir.Syntax.{w64}
+use mir.Facts.{toZ-ofZ}
+use Rattle.readout.specs.declared.distances.Found.the-variants.{Nothing}
+use Rattle.readout.proofs.Labelled.{Counted, label-found, label-differ, place-low, label-far, label-near}
+use Rattle.readout.proofs.labels.label_for.Statement.{statement}
+use Rattle.readout.proofs.labels.label_for.Tie as tie
+
+counted :
+    (c : tie.After-cut2) →
+    Counted (c .before .before .args .distances) (c .before .before .args .n) (c .cut2 .result) (c .before .before .args .t3) (c .before .before .args .label-count) (c .before .cut .result)
+counted c = record { end-is = c .cut2 .ensures; ds-long = omega arith; count-is = c .before .cut .ensures; labels-long = omega arith }
+
+cut-requires : tie.Need-cut-requires
+cut-requires c κs = search needs
+
+cut-requires-2 : tie.Need-cut-requires-2
+cut-requires-2 c κs = search needs
+
+returns : tie.Need-returns
+returns c = label-differ (c .before .before .before .args .radius2) (counted (c .before)) (c .if1 .taken)
+
+nearest-requires : tie.Need-nearest-requires
+nearest-requires c κs = search needs
+
+enum-known-found : tie.Need-enum-known-found
+enum-known-found c = search needs
+
+enum-told : tie.Need-enum-told
+enum-told c = search needs
+
+returns-2 : tie.Need-returns-2
+returns-2 c = label-found (c .before .before .before .before .before .before .args .radius2) (counted (c .before .before .before .before)) (c .before .before .before .if1 .left) (c .before .before .nearest .ensures) Nothing (c .enum-told .given .1)
+
+mul-result : tie.Need-mul-result
+mul-result c = omega (arith, place-low (c .before .before .before .before .before .before .before .before .args .radius2) (counted (c .before .before .before .before .before .before)) (c .before .before .before .before .before .if1 .left) (c .before .before .before .before .nearest .ensures) (c .before .before .found .given .1))
+
+array-copy-out-result : tie.Need-array-copy-out-result
+array-copy-out-result c = omega (arith, place-low (c .before .before .before .before .before .before .before .before .args .radius2) (counted (c .before .before .before .before .before .before)) (c .before .before .before .before .before .if1 .left) (c .before .before .before .before .nearest .ensures) (c .before .before .found .given .1))
+
+returns-3 : tie.Need-returns-3
+returns-3 c = label-near (c .before .before .before .before .before .before .before .before .before .args .radius2) (counted (c .before .before .before .before .before .before .before)) (c .before .before .before .before .before .before .if1 .left) (c .before .before .before .before .before .nearest .ensures) (c .before .before .before .found .given .1) (c .before .if2 .taken) _ (toZ-ofZ (sfits-of {w = w64} (c .result .given)))
+
+returns-4 : tie.Need-returns-4
+returns-4 c = label-far (c .before .before .before .before .before .before .before .before .args .radius2) (counted (c .before .before .before .before .before .before)) (c .before .before .before .before .before .if1 .left) (c .before .before .before .before .nearest .ensures) (c .before .before .found .given .1) (c .if2 .left)
+
+pub label-for-spec : {M : Type 1} → statement M
+label-for-spec =
+    tie.close
+    (tie.spec
+    cut-requires
+    cut-requires-2
+    returns
+    nearest-requires
+    enum-known-found
+    enum-told
+    returns-2
+    mul-result
+    array-copy-out-result
+    returns-3
+    returns-4)

@@ -1,0 +1,102 @@
+-- `n_clusters` meets its contract. Assumes nothing.
+use Prim.Native.Nat.{_+_, _-_, _≤_}
+use mathlib.Core.Bool.{true, false}
+use mathlib.Core.Path.{refl, _≡_, sym, ap, _∙_}
+use mathlib.Core.Logic.{⊎-elim}
+use native.Mathlib.Omega.{arith}
+use borrow.Author.Needs.{sfits-of, needs}
+use borrow.Author.Tests.{not-true, not-false}
+use lib.IntN.{pos}
+use lib.ListN.{getD, take}
+use mir.Syntax.{w64}
+use mir.Val.{toZ, ofZ}
+use mir.Facts.{toZ-ofZ}
+use Rattle.model.specs.Limits.{microsMost}
+use Rattle.lists.specs.Rest.{rest, cut-start}
+use Rattle.model.specs.ReadOut.{clustersIn}
+use Rattle.readout.proofs.Counting.{count-step, count-end}
+use Rattle.readout.proofs.labels.n_clusters.Statement.{statement}
+use Rattle.readout.proofs.labels.n_clusters.Tie as tie
+
+abbrev Inv-loop : tie.InvT-loop
+Inv-loop count labels end n₀ i₀ n i = (i ≤ end) × (n ≤ i) × (n + clustersIn (rest end i labels) ≡ clustersIn (take count labels))
+
+abbrev μ-loop : tie.MeasureT-loop
+μ-loop count labels end n₀ i₀ n i = end - i
+
+cut-requires : tie.Need-cut-requires Inv-loop μ-loop
+cut-requires c κs = search needs
+
+loop-holds : tie.Need-loop-holds Inv-loop μ-loop
+loop-holds c =
+    let a = c .before .args in
+    (omega arith, omega arith, omega (arith, ap clustersIn (cut-start (c .cut .result) (a .count) microsMost (a .t1) (c .cut .ensures) (omega arith))))
+
+mul-label : tie.Need-mul-label Inv-loop μ-loop
+mul-label c = search needs
+
+array-copy-out-label : tie.Need-array-copy-out-label Inv-loop μ-loop
+array-copy-out-label c = search needs
+
+same-family-requires : tie.Need-same-family-requires Inv-loop μ-loop
+same-family-requires c κs = search needs
+
+add-stands-from : tie.Need-add-stands-from Inv-loop μ-loop
+add-stands-from c = search needs
+
+stands-from-requires : tie.Need-stands-from-requires Inv-loop μ-loop
+stands-from-requires c κs = search needs
+
+add-n : tie.Need-add-n Inv-loop μ-loop
+add-n c = search needs
+
+add-i : tie.Need-add-i Inv-loop μ-loop
+add-i c = search needs
+
+loop-less : tie.Need-loop-less Inv-loop μ-loop
+loop-less c = search needs
+
+loop-again : tie.Need-loop-again Inv-loop μ-loop
+loop-again c =
+    let a = c .before .before .before .before .before .before .args in
+    let end = c .before .before .before .before .before .cut .result in
+    let l = c .before .before .before .before .loop in
+    let label = toZ w64 (ofZ w64 (getD (a .t1) (l .i) (pos 0))) in
+    let step = count-step end (l .i) (a .t1) label (toZ-ofZ (sfits-of {w = w64} (c .before .before .label .given))) in
+    ⊎-elim
+    (λ w.
+    let s = step true false (sym (c .before .same-family .ensures) ∙ w .0 .taken) (sym (w .1 .ensures) ∙ not-true _ (w .2 .taken)) (c .before .before .before .loop-test .taken) (omega arith) in
+    (omega arith, omega (arith, w .3), omega (arith, w .3, s, l .inv .2)))
+    (⊎-elim
+    (λ w.
+    let s = step true true (sym (c .before .same-family .ensures) ∙ w .0 .taken) (sym (w .1 .ensures) ∙ not-false _ (w .2 .left)) (c .before .before .before .loop-test .taken) (omega arith) in
+    (omega arith, omega (arith, w .3), omega (arith, w .3, s, l .inv .2)))
+    (λ w.
+    let s = step false _ (sym (c .before .same-family .ensures) ∙ w .0 .left) refl (c .before .before .before .loop-test .taken) (omega arith) in
+    (omega arith, omega (arith, w .1), omega (arith, w .1, s, l .inv .2))))
+    (c .if1 .came)
+
+returns : tie.Need-returns Inv-loop μ-loop
+returns c =
+    let a = c .before .before .before .args in
+    let l = c .before .loop in
+    omega (arith, count-end (c .before .before .cut .result) (l .i) (a .t1) (omega arith), l .inv .2)
+
+pub n-clusters-spec : {M : Type 1} → statement M
+n-clusters-spec =
+    tie.close
+    (tie.spec
+    Inv-loop
+    μ-loop
+    cut-requires
+    loop-holds
+    mul-label
+    array-copy-out-label
+    same-family-requires
+    add-stands-from
+    stands-from-requires
+    add-n
+    add-i
+    loop-less
+    loop-again
+    returns)

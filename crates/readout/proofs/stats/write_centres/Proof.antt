@@ -1,0 +1,95 @@
+-- `write_centres` meets its contract. Assumes nothing.
+use Prim.Native.Nat.{_*_, _-_, _≤_}
+use mathlib.Core.Path.{_≡_, sym}
+use native.Mathlib.Omega.{arith}
+use borrow.Author.Needs.{needs}
+use Rattle.readout.proofs.Centres.{Turn, mean-fits, means-wide, mean-room, mean-count, centresDue, few, turn-start, turn-length, turn-room, turn-step, turn-end}
+use Rattle.readout.proofs.Copies.{partly}
+use Rattle.readout.proofs.stats.write_centres.Statement.{statement}
+use Rattle.readout.proofs.stats.write_centres.Tie as tie
+
+abbrev Inv-loop : tie.InvT-loop
+Inv-loop end width out₀ features i₀ out i = (i ≤ end) × (out ≡ partly (centresDue width end features) out₀ (i * width))
+
+abbrev μ-loop : tie.MeasureT-loop
+μ-loop end width out₀ features i₀ out i = end - i
+
+turn :
+    (c : tie.At-loop Inv-loop μ-loop) →
+    Turn (c .before .before .args .width) (c .before .before .args .«end») (c .before .before .args .t1) (c .before .before .args .out .now) (c .loop .out) (c .loop .i)
+turn c =
+    let s = c .before .before in
+    record { wide = means-wide (s .args .t1) _ (s .good .0 .1 .1); low = omega arith; long = omega arith; room = s .pre .2; done = c .loop .inv .1 }
+
+loop-holds : tie.Need-loop-holds Inv-loop μ-loop
+loop-holds c =
+    let a = c .before .args in
+    (omega arith, turn-start (a .width) (a .«end») (a .t1) (a .out .now))
+
+mul-cf : tie.Need-mul-cf Inv-loop μ-loop
+mul-cf c = search needs
+
+array-copy-out-cf : tie.Need-array-copy-out-cf Inv-loop μ-loop
+array-copy-out-cf c = search needs
+
+mul-at : tie.Need-mul-at Inv-loop μ-loop
+mul-at c = omega (arith, few (c .before .before .before .loop .i) (c .before .before .before .before .before .args .width) (omega arith) (omega arith))
+
+array-share-prefix-mean : tie.Need-array-share-prefix-mean Inv-loop μ-loop
+array-share-prefix-mean c = mean-room (turn (c .before .before .before)) (c .before .before .loop-test .taken) _
+
+slice-aggregate-write : tie.Need-slice-aggregate-write Inv-loop μ-loop
+slice-aggregate-write c = sym (mean-count (turn (c .before .before .before .before)) (c .before .before .before .loop-test .taken) _)
+
+mul-write : tie.Need-mul-write Inv-loop μ-loop
+mul-write c = omega (arith, few (c .before .before .before .before .loop .i) (c .before .before .before .before .before .before .args .width) (omega arith) (omega arith))
+
+sub-write : tie.Need-sub-write Inv-loop μ-loop
+sub-write c = omega (arith, turn-room (turn (c .before .before .before .before)) (c .before .before .before .loop-test .taken))
+
+part-write-start : tie.Need-part-write-start Inv-loop μ-loop
+part-write-start c = omega (arith, turn-room (turn (c .before .before .before .before)) (c .before .before .before .loop-test .taken))
+
+part-write-end : tie.Need-part-write-end Inv-loop μ-loop
+part-write-end c = search needs
+
+write-requires : tie.Need-write-requires Inv-loop μ-loop
+write-requires c κs = mean-fits (turn (c .before .before .before .before .before)) (c .before .before .before .before .loop-test .taken) _
+
+add-i : tie.Need-add-i Inv-loop μ-loop
+add-i c = search needs
+
+loop-less : tie.Need-loop-less Inv-loop μ-loop
+loop-less c = search needs
+
+loop-again : tie.Need-loop-again Inv-loop μ-loop
+loop-again c = (omega arith, turn-step (turn (c .before .before .before .before .before .before .before .before)) (c .before .before .before .before .before .before .before .loop-test .taken) _ _ (c .before .before .write .ensures))
+
+same-length : tie.Need-same-length Inv-loop μ-loop
+same-length c = turn-length (turn (c .before)) (c .before .loop .inv .0)
+
+returns : tie.Need-returns Inv-loop μ-loop
+returns c = turn-end (turn (c .before)) (omega arith)
+
+pub write-centres-spec : {M : Type 1} → statement M
+write-centres-spec =
+    tie.close
+    (tie.spec
+    Inv-loop
+    μ-loop
+    loop-holds
+    mul-cf
+    array-copy-out-cf
+    mul-at
+    array-share-prefix-mean
+    slice-aggregate-write
+    mul-write
+    sub-write
+    part-write-start
+    part-write-end
+    write-requires
+    add-i
+    loop-less
+    loop-again
+    same-length
+    returns)
