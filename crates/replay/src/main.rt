@@ -1,10 +1,16 @@
 // Drives every public call from standard input and prints each answer on a line, so that the library can be compared,
 // call by call, with the Rust and with any other reading of document 01. docs/REPLAY.md has the records and the lines.
+mod answers;
+mod db;
+mod figures;
 mod input;
 mod output;
 mod window;
 
 use adwin::Adwin;
+use answers::say_opening;
+use dbstream::DbStream;
+use input::OPERANDS;
 use input::Record;
 use input::Status;
 use input::read_record;
@@ -12,8 +18,10 @@ use output::ROOM;
 use output::say;
 use words::double_of;
 
-// What the records act on: a window once one is open.
+// What the records act on: the current stream and the current window, once they are open.
 struct Machine {
+    db: DbStream,
+    has_db: bool,
     window: Adwin,
     has_window: bool,
     running: bool,
@@ -22,11 +30,25 @@ struct Machine {
 // Whether the operation is known and has its number of operands.
 fn is_known(op: u64, count: usize) -> bool {
     match op {
-        10 => count == 1,
-        11 => count == 1,
-        12 => count == 0,
+        1 => count == 5,
+        3 | 6 => true,
+        4 | 9 | 12 | 13 | 14 => count == 0,
+        5 | 10 | 11 => count == 1,
+        7 => count == 3,
+        8 => count == 2,
         _ => false,
     }
+}
+
+// The operands as doubles.
+fn doubles(words: [u64; OPERANDS]) -> [f64; OPERANDS] {
+    let mut xs = [0.0; OPERANDS];
+    let mut i: usize = 0;
+    while i < OPERANDS {
+        xs[i] = double_of(words[i]);
+        i += 1;
+    }
+    xs
 }
 
 fn on_window(line: &mut [u8], m: Machine, r: Record) -> Machine {
@@ -38,7 +60,7 @@ fn on_window(line: &mut [u8], m: Machine, r: Record) -> Machine {
         return Machine {
             window: Adwin::new(x),
             has_window: true,
-            running: true,
+            ..m
         };
     }
     if !m.has_window {
@@ -52,6 +74,78 @@ fn on_window(line: &mut [u8], m: Machine, r: Record) -> Machine {
         };
     }
     window::show(line, window);
+    m
+}
+
+// A refused opening leaves the current stream as it was.
+fn open_db(line: &mut [u8], m: Machine, r: Record) -> Machine {
+    let words = r.words;
+    let xs = doubles(words);
+    let opened = DbStream::new(words[0] as usize, xs[1], xs[2], xs[3], xs[4]);
+    let stream = opened.stream;
+    let answer = opened.answer;
+    say_opening(line, answer);
+    if answer.is_open() {
+        return Machine {
+            db: stream,
+            has_db: true,
+            ..m
+        };
+    }
+    m
+}
+
+// The operations that change the current stream.
+fn change_db(line: &mut [u8], s: DbStream, r: Record) -> DbStream {
+    let words = r.words;
+    let xs = doubles(words);
+    let n = lists::cut(r.count, OPERANDS);
+    if r.op == 3 {
+        return db::insert(line, s, &xs[..n]);
+    }
+    say(line, b"ok");
+    s.cluster()
+}
+
+// The operations that only read it.
+fn read_db(line: &mut [u8], s: DbStream, r: Record) {
+    let words = r.words;
+    let xs = doubles(words);
+    let n = lists::cut(r.count, OPERANDS);
+    let op = r.op;
+    match op {
+        5 => db::labels(line, s, words[0] as usize),
+        6 => db::predict(line, s, &xs[..n]),
+        7 => db::statistics(
+            line,
+            s,
+            words[0] as usize,
+            words[1] as usize,
+            words[2] as usize,
+        ),
+        8 => db::connectivity(line, s, words[0], words[1]),
+        9 => db::drift(line, s),
+        13 => db::figures(line, s),
+        _ => db::counts(line, s),
+    }
+}
+
+fn on_stream(line: &mut [u8], m: Machine, r: Record) -> Machine {
+    if r.op == 1 {
+        return open_db(line, m, r);
+    }
+    if !m.has_db {
+        say(line, b"none");
+        return m;
+    }
+    let s = m.db;
+    if r.op < 5 {
+        return Machine {
+            db: change_db(line, s, r),
+            ..m
+        };
+    }
+    read_db(line, s, r);
     m
 }
 
@@ -78,12 +172,19 @@ fn turn(line: &mut [u8], m: Machine) -> Machine {
         say(line, b"bad");
         return stopped(m);
     }
-    on_window(line, m, r)
+    if 10 <= r.op && r.op <= 12 {
+        return on_window(line, m, r);
+    }
+    on_stream(line, m, r)
 }
 
 fn main() {
     let mut line = [0u8; ROOM];
+    let refused = DbStream::new(0, 0.0, 0.0, 0.0, 0.0);
+    let db = refused.stream;
     let mut m = Machine {
+        db,
+        has_db: false,
         window: Adwin::new(0.0),
         has_window: false,
         running: true,

@@ -13,6 +13,9 @@ abbrev μ-loop : tie.MeasureT-loop
 new-requires : tie.Need-new-requires Inv-loop μ-loop
 new-requires c κs = search needs
 
+new-requires-2 : tie.Need-new-requires-2 Inv-loop μ-loop
+new-requires-2 c κs = search needs
+
 loop-holds : tie.Need-loop-holds Inv-loop μ-loop
 loop-holds c = refl
 
@@ -44,6 +47,7 @@ main-spec =
     Inv-loop
     μ-loop
     new-requires
+    new-requires-2
     loop-holds
     slice-aggregate-turn
     turn-requires

@@ -1,0 +1,10 @@
+// DenStream (Cao): two pools of fading micro-clusters, potential ones and outliers.
+mod families;
+mod insert;
+mod opening;
+mod reading;
+mod stream;
+
+pub use insert::Inserted;
+pub use opening::Opened;
+pub use stream::DenStream;

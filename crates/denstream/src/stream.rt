@@ -1,0 +1,47 @@
+// What a DenStream keeps, and what it says of itself.
+use drift::DriftMonitor;
+use drift::DriftReport;
+use feature::MAX_DIM;
+use model::MICROS;
+use model::Micro;
+use model::Params;
+ghost use mathlib.Core.Path.{_≡_};
+ghost use lib.ListN.{length};
+ghost use Rattle.drift.specs.Monitor.{reportOf};
+ghost use Rattle.denstream.specs.View.{view};
+
+// Each pool is the first of its array; params has at most 15 coordinates.
+pub struct DenStream {
+    pub(crate) params: Params,
+    pub(crate) t: f64,
+    pub(crate) potential: [Micro; MICROS],
+    pub(crate) potential_count: usize,
+    pub(crate) outliers: [Micro; MICROS],
+    pub(crate) outlier_count: usize,
+    pub(crate) labels: [i64; MICROS],
+    pub(crate) label_count: usize,
+    pub(crate) drift: DriftMonitor,
+}
+
+impl DenStream {
+    pub fn drift(self) -> DriftReport
+        ensures { λ r. ⌜ r ≡ reportOf (view self .drift) ⌝ }
+    {
+        let monitor = self.drift;
+        monitor.report()
+    }
+
+    pub fn dim(self) -> usize
+        ensures { λ r. ⌜ r ≡ view self .params .dim ⌝ }
+    {
+        let params = self.params;
+        lists::cut(params.dim, MAX_DIM)
+    }
+
+    // How many potential micro-clusters are held.
+    pub fn potential_count(self) -> usize
+        ensures { λ r. ⌜ r ≡ length (view self .potential) ⌝ }
+    {
+        placement::potential_held(self.potential_count)
+    }
+}

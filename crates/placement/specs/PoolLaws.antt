@@ -1,0 +1,152 @@
+-- What is done to the arrays of the pools is done to the stream that keeps them. Assumes nothing.
+use Prim.Native.Nat.{ℕ, zero, suc, _+_, _≤_, _<_, min}
+use mathlib.Core.Path.{_≡_, refl, sym, ap, ap₂, _∙_, subst}
+use mathlib.Core.List.{List, [], _∷_, _++_, map}
+use native.Mathlib.Omega.{arith}
+use native.Mathlib.Numerals.{add-one}
+use lib.IntN.{ℤ}
+use lib.Ieee.{Float}
+use lib.ListN.{length, take, set, length-take, length-map}
+use lib.Seq.{take-suc-set, length-take-le}
+use Rattle.lists.specs.Retain.{retain, without}
+use Rattle.lists.specs.Rest.{take-set}
+use Rattle.lists.specs.Maps.{map-set, map-append, map-retain}
+use Rattle.lists.specs.Sizes.{retain-length, without-length}
+use Rattle.feature.specs.Feature.{maxDim}
+use Rattle.drift.specs.Monitor.{Monitor}
+use Rattle.model.specs.declared.micro.Micro.{Micro}
+use Rattle.model.specs.declared.params.Params.{Params}
+use Rattle.model.specs.DenState.{State}
+use Rattle.model.specs.DenInsert.{potentialStays, outlierStays, pruned}
+use Rattle.pool.specs.declared.pool.Pool.{Pool}
+use Rattle.pool.specs.Held.{held, microIn, seen}
+use Rattle.placement.specs.declared.choice.Target.{Target}
+use Rattle.placement.specs.declared.choice.Target.the-variants.{Potential, Promotion, Outlier, Newborn, Nowhere}
+use Rattle.placement.specs.Pools.{potentialHeld, outliersHeld, stateOf}
+use Rattle.placement.specs.Placing.{pooledAt, Ready}
+
+-- how many are seen
+pub held-length : (dim n : ℕ) (l : List Micro) → n ≤ length l → length (seen dim n l) ≡ n
+held-length dim n l h = length-map (take n l) (microIn dim) ∙ length-take-le n l h
+
+map-without : {A B : Type 0} (f : A → B) (i : ℕ) (l : List A) → map f (without i l) ≡ without i (map f l)
+unfolding without
+map-without f i [] = refl
+map-without f zero (x ∷ xs) = refl
+map-without {A} {B} f (suc i) (x ∷ xs) = ap (λ (r : List B). f x ∷ r) (map-without f i xs)
+
+seen-set : (dim n : ℕ) (l : List Micro) (i : ℕ) (m : Micro) → seen dim n (set l i m) ≡ set (seen dim n l) i (microIn dim m)
+seen-set dim n l i m = ap (map (microIn dim)) (take-set n l i m) ∙ map-set (microIn dim) (take n l) i m
+
+-- one more at the end
+seen-more : (dim n k : ℕ) (l : List Micro) (m : Micro) → n < length l → k ≡ n + 1 → seen dim k (set l n m) ≡ seen dim n l ++ microIn dim m ∷ []
+seen-more dim n k l m h e =
+    ap (λ (j : ℕ). seen dim j (set l n m)) (e ∙ add-one n)
+    ∙ ap (map (microIn dim)) (take-suc-set l n m h)
+    ∙ map-append (microIn dim) (take n l) (m ∷ [])
+
+module _ (p : Params) (t : Float) (potential : List Micro) (potentialCount : ℕ) (outliers : List Micro) (outlierCount : ℕ) (labels : List ℤ) (drift : Monitor) where
+  abbrev d : ℕ
+  d = min (p .dim) maxDim
+
+  abbrev s : State
+  s = stateOf p t potential potentialCount outliers outlierCount labels drift
+
+  abbrev with : (potential outliers : List Micro) → (labels : List ℤ) → State
+  with a b l = record { params = s .params; t = t; potential = a; outliers = b; labels = l; drift = drift }
+
+  -- one absorbs where it is
+  module _ (target : Target) (place : ℕ) (m : Micro) where
+    pub potential-absorbs : target ≡ Potential → stateOf p t (set potential place m) potentialCount outliers outlierCount [] drift ≡ pooledAt target place (microIn d m) s
+    potential-absorbs e =
+        ap (λ (l : List Micro). with l (s .outliers) []) (seen-set d (potentialHeld potentialCount) potential place m)
+        ∙ ap (λ (u : Target). pooledAt u place (microIn d m) s) (sym e)
+
+    pub outlier-absorbs : target ≡ Outlier → stateOf p t potential potentialCount (set outliers place m) outlierCount [] drift ≡ pooledAt target place (microIn d m) s
+    outlier-absorbs e =
+        ap (λ (l : List Micro). with (s .potential) l []) (seen-set d (outliersHeld potentialCount outlierCount) outliers place m)
+        ∙ ap (λ (u : Target). pooledAt u place (microIn d m) s) (sym e)
+
+    pub nowhere-stays : target ≡ Nowhere → s ≡ pooledAt target place (microIn d m) s
+    nowhere-stays e = ap (λ (u : Target). pooledAt u place (microIn d m) s) (sym e)
+
+    module _ (r : Ready target place s) where
+      abbrev Needs : Target → Type 0
+      Needs u = Ready u place s
+
+      pub potential-low : target ≡ Potential → length potential ≡ 64 → place < 64
+      potential-low e h =
+          let q : place < length (s .potential) = subst Needs e r in
+          omega (arith, q, length-map (take (potentialHeld potentialCount) potential) (microIn d), length-take (potentialHeld potentialCount) potential)
+
+      pub outlier-low : target ≡ Outlier → length outliers ≡ 64 → place < 64
+      outlier-low e h =
+          let q : place < length (s .outliers) = subst Needs e r in
+          omega (arith, q, length-map (take (outliersHeld potentialCount outlierCount) outliers) (microIn d), length-take (outliersHeld potentialCount outlierCount) outliers)
+
+  module _ (lp : length potential ≡ 64) (lo : length outliers ≡ 64) (np : ℕ) (ep : np ≡ potentialHeld potentialCount) (ko : ℕ) (eo : ko ≡ outliersHeld potentialCount outlierCount) where
+    p-size : length (take np potential) ≡ np
+    p-size = omega (arith, length-take np potential)
+
+    o-size : length (take ko outliers) ≡ ko
+    o-size = omega (arith, length-take ko outliers)
+
+    p-seen : seen d np potential ≡ s .potential
+    p-seen = ap (λ (n : ℕ). seen d n potential) ep
+
+    o-seen : seen d ko outliers ≡ s .outliers
+    o-seen = ap (λ (n : ℕ). seen d n outliers) eo
+
+    p-length : length (s .potential) ≡ np
+    p-length = ap length (sym p-seen) ∙ length-map (take np potential) (microIn d) ∙ p-size
+
+    o-length : length (s .outliers) ≡ ko
+    o-length = ap length (sym o-seen) ∙ length-map (take ko outliers) (microIn d) ∙ o-size
+
+    module _ (target : Target) (place : ℕ) (m : Micro) (r : Ready target place s) where
+      -- an outlier that grew moves to the end of the potential ones
+      promotion-place : target ≡ Promotion → place < ko
+      promotion-place e = let w : place < length (s .outliers) = subst (λ (u : Target). Ready u place s) e r in omega (arith, w, o-length)
+
+      pub promotion-low : target ≡ Promotion → np < 64
+      promotion-low e = omega (arith, promotion-place e)
+
+      pub promotes :
+          target ≡ Promotion → (rest : Pool) → held rest ≡ without place (take ko outliers) → rest .count ≡ length (held rest) →
+          stateOf p t (set potential np m) (np + 1) (rest .micros) (rest .count) [] drift ≡ pooledAt target place (microIn d m) s
+      promotes e rest el cl =
+          let q : place < ko = promotion-place e in
+          let a : length (without place (take ko outliers)) + 1 ≡ length (take ko outliers) = without-length place (take ko outliers) (omega (arith, o-size)) in
+          let b : rest .count ≡ length (without place (take ko outliers)) = cl ∙ ap length el in
+          ap₂ (λ (x y : List Micro). with x y [])
+          (seen-more d np (potentialHeld (np + 1)) potential m (omega arith) (omega arith) ∙ ap (λ (l : List Micro). l ++ microIn d m ∷ []) p-seen)
+          (ap (λ (n : ℕ). seen d n (rest .micros)) (let c : outliersHeld (np + 1) (rest .count) ≡ rest .count = omega (arith, o-size) in c)
+          ∙ ap (map (microIn d)) el ∙ map-without (microIn d) place (take ko outliers) ∙ ap (without place) o-seen)
+          ∙ ap (λ (u : Target). pooledAt u place (microIn d m) s) (sym e)
+
+      -- a new outlier at the end
+      pub newborn-low : target ≡ Newborn → np + ko < 64
+      newborn-low e =
+          let w : length (s .potential) + length (s .outliers) < 64 = subst (λ (u : Target). Ready u place s) e r in
+          omega (arith, w, p-length, o-length)
+
+      pub comes : target ≡ Newborn → stateOf p t potential potentialCount (set outliers ko m) (ko + 1) [] drift ≡ pooledAt target place (microIn d m) s
+      comes e =
+          ap (λ (l : List Micro). with (s .potential) l [])
+          (seen-more d ko (outliersHeld potentialCount (ko + 1)) outliers m (omega (arith, newborn-low e)) (omega (arith, newborn-low e)) ∙ ap (λ (l : List Micro). l ++ microIn d m ∷ []) o-seen)
+          ∙ ap (λ (u : Target). pooledAt u place (microIn d m) s) (sym e)
+
+    -- a pruning of both pools
+    pub prunes :
+        (a b : Pool) → held a ≡ retain (potentialStays p t) (take np potential) → a .count ≡ length (held a) → held b ≡ retain (outlierStays p t) (take ko outliers) → b .count ≡ length (held b) →
+        stateOf p t (a .micros) (a .count) (b .micros) (b .count) labels drift ≡ pruned s
+    prunes a b ea ca eb cb =
+        let n1 : a .count ≡ length (retain (potentialStays p t) (take np potential)) = ca ∙ ap length ea in
+        let n2 : b .count ≡ length (retain (outlierStays p t) (take ko outliers)) = cb ∙ ap length eb in
+        let i : a .count ≤ np = omega (arith, n1, p-size, retain-length (potentialStays p t) (take np potential)) in
+        let j : b .count ≤ ko = omega (arith, n2, o-size, retain-length (outlierStays p t) (take ko outliers)) in
+        ap₂ (λ (x y : List Micro). with x y labels)
+        (ap (λ (n : ℕ). seen d n (a .micros)) (let c : potentialHeld (a .count) ≡ a .count = omega arith in c)
+        ∙ ap (map (microIn d)) ea ∙ map-retain (microIn d) (potentialStays p t) (take np potential) ∙ ap (retain (potentialStays p t)) p-seen)
+        (ap (λ (n : ℕ). seen d n (b .micros)) (let c : outliersHeld (a .count) (b .count) ≡ b .count = omega arith in c)
+        ∙ ap (map (microIn d)) eb ∙ map-retain (microIn d) (outlierStays p t) (take ko outliers) ∙ ap (retain (outlierStays p t)) o-seen)

@@ -1,0 +1,147 @@
+// The operations on a DBSTREAM.
+use crate::answers::say_connectivity;
+use crate::answers::say_insertion;
+use crate::answers::say_prediction;
+use crate::figures::CENTRES;
+use crate::figures::put_feature;
+use crate::figures::put_labels;
+use crate::figures::put_monitor;
+use crate::figures::say_counts;
+use crate::figures::say_drift;
+use crate::figures::say_statistics;
+use crate::output::end;
+use crate::output::put;
+use crate::output::put_double;
+use crate::output::put_number;
+use crate::output::put_whole;
+use crate::output::say;
+use dbstream::DbStream;
+use model::DbMicro;
+use model::LINKS;
+use model::Link;
+use model::MICROS;
+use model::MicroId;
+use model::Reading;
+
+pub fn insert(line: &mut [u8], s: DbStream, x: &[f64]) -> DbStream {
+    let r = s.try_insert(x);
+    let next = r.stream;
+    let answer = r.answer;
+    say_insertion(line, answer);
+    next
+}
+
+// The labels, into a slice of that length.
+pub fn labels(line: &mut [u8], s: DbStream, capacity: usize) {
+    let count = s.label_count;
+    let mut out = [0i64; MICROS];
+    let n = lists::cut(capacity, MICROS);
+    let answer = s.labels(&mut out[..n]);
+    let Reading::Written = answer else {
+        say(line, b"refused 10");
+        return;
+    };
+    let head = put(line, 0, b"labels");
+    let at = put_labels(line, head, out, count);
+    end(line, at);
+}
+
+pub fn predict(line: &mut [u8], s: DbStream, x: &[f64]) {
+    let answer = s.try_predict(x);
+    say_prediction(line, answer);
+}
+
+// Centres, weights and radii, into slices of these lengths.
+pub fn statistics(line: &mut [u8], s: DbStream, c: usize, w: usize, r: usize) {
+    let mut centres = [0.0; CENTRES];
+    let mut weights = [0.0; MICROS];
+    let mut radii = [0.0; MICROS];
+    let cs = lists::cut(c, CENTRES);
+    let ws = lists::cut(w, MICROS);
+    let rs = lists::cut(r, MICROS);
+    let n = s.micro_count();
+    let dim = s.dim();
+    let answer = s.micro_stats(&mut centres[..cs], &mut weights[..ws], &mut radii[..rs]);
+    let Reading::Written = answer else {
+        say(line, b"refused 10");
+        return;
+    };
+    say_statistics(line, n, dim, centres, weights, radii);
+}
+
+pub fn connectivity(line: &mut [u8], s: DbStream, a: u64, b: u64) {
+    let answer = s.connectivity(MicroId(a), MicroId(b));
+    say_connectivity(line, answer);
+}
+
+pub fn drift(line: &mut [u8], s: DbStream) {
+    let report = s.drift();
+    say_drift(line, report);
+}
+
+pub fn counts(line: &mut [u8], s: DbStream) {
+    say_counts(line, s.dim(), s.micro_count(), s.n_clusters());
+}
+
+fn put_micro(line: &mut [u8], from: usize, m: DbMicro, dim: usize) -> usize {
+    let id = m.id;
+    let cf = m.cf;
+    let i = put_number(line, from, id.0);
+    let at = put_whole(line, i, m.last);
+    put_feature(line, at, cf, dim)
+}
+
+fn put_micros(
+    line: &mut [u8],
+    from: usize,
+    micros: [DbMicro; MICROS],
+    n: usize,
+    dim: usize,
+) -> usize {
+    let k = lists::cut(n, MICROS);
+    let mut at = put_number(line, from, k as u64);
+    let mut i: usize = 0;
+    while i < k {
+        let m = micros[i];
+        at = put_micro(line, at, m, dim);
+        i += 1;
+    }
+    at
+}
+
+fn put_link(line: &mut [u8], from: usize, l: Link) -> usize {
+    let lo = l.lo;
+    let hi = l.hi;
+    let a = put_number(line, from, lo.0);
+    let b = put_number(line, a, hi.0);
+    let v = put_double(line, b, l.value);
+    put_whole(line, v, l.last)
+}
+
+fn put_links(line: &mut [u8], from: usize, links: [Link; LINKS], n: usize) -> usize {
+    let k = lists::cut(n, LINKS);
+    let mut at = put_number(line, from, k as u64);
+    let mut i: usize = 0;
+    while i < k {
+        let l = links[i];
+        at = put_link(line, at, l);
+        i += 1;
+    }
+    at
+}
+
+// Every kept figure.
+pub fn figures(line: &mut [u8], s: DbStream) {
+    let micros = s.micros;
+    let links = s.links;
+    let kept = s.labels;
+    let monitor = s.drift;
+    let head = put(line, 0, b"db");
+    let t = put_whole(line, head, s.t);
+    let i = put_number(line, t, s.next_id);
+    let m = put_micros(line, i, micros, s.count, s.dim);
+    let l = put_links(line, m, links, s.link_count);
+    let k = put_labels(line, l, kept, s.label_count);
+    let d = put_monitor(line, k, monitor);
+    end(line, d);
+}
