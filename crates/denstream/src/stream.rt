@@ -12,15 +12,15 @@ ghost use Rattle.denstream.specs.View.{view};
 
 // Each pool is the first of its array; params has at most 15 coordinates.
 pub struct DenStream {
-    pub(crate) params: Params,
-    pub(crate) t: f64,
-    pub(crate) potential: [Micro; MICROS],
-    pub(crate) potential_count: usize,
-    pub(crate) outliers: [Micro; MICROS],
-    pub(crate) outlier_count: usize,
-    pub(crate) labels: [i64; MICROS],
-    pub(crate) label_count: usize,
-    pub(crate) drift: DriftMonitor,
+    pub params: Params,
+    pub t: f64,
+    pub potential: [Micro; MICROS],
+    pub potential_count: usize,
+    pub outliers: [Micro; MICROS],
+    pub outlier_count: usize,
+    pub labels: [i64; MICROS],
+    pub label_count: usize,
+    pub drift: DriftMonitor,
 }
 
 impl DenStream {

@@ -2,6 +2,7 @@
 // call by call, with the Rust and with any other reading of document 01. docs/REPLAY.md has the records and the lines.
 mod answers;
 mod db;
+mod den;
 mod figures;
 mod input;
 mod output;
@@ -10,6 +11,7 @@ mod window;
 use adwin::Adwin;
 use answers::say_opening;
 use dbstream::DbStream;
+use denstream::DenStream;
 use input::OPERANDS;
 use input::Record;
 use input::Status;
@@ -18,10 +20,18 @@ use output::ROOM;
 use output::say;
 use words::double_of;
 
+// The kinds of stream, numbered as the operations that open them; NONE before the first.
+const NONE: u64 = 0;
+
+const DBSTREAM: u64 = 1;
+
+const DENSTREAM: u64 = 2;
+
 // What the records act on: the current stream and the current window, once they are open.
 struct Machine {
+    kind: u64,
     db: DbStream,
-    has_db: bool,
+    den: DenStream,
     window: Adwin,
     has_window: bool,
     running: bool,
@@ -30,7 +40,7 @@ struct Machine {
 // Whether the operation is known and has its number of operands.
 fn is_known(op: u64, count: usize) -> bool {
     match op {
-        1 => count == 5,
+        1 | 2 => count == 5,
         3 | 6 => true,
         4 | 9 | 12 | 13 | 14 => count == 0,
         5 | 10 | 11 => count == 1,
@@ -87,8 +97,25 @@ fn open_db(line: &mut [u8], m: Machine, r: Record) -> Machine {
     say_opening(line, answer);
     if answer.is_open() {
         return Machine {
+            kind: DBSTREAM,
             db: stream,
-            has_db: true,
+            ..m
+        };
+    }
+    m
+}
+
+fn open_den(line: &mut [u8], m: Machine, r: Record) -> Machine {
+    let words = r.words;
+    let xs = doubles(words);
+    let opened = DenStream::new(words[0] as usize, xs[1], xs[2], xs[3], xs[4]);
+    let stream = opened.stream;
+    let answer = opened.answer;
+    say_opening(line, answer);
+    if answer.is_open() {
+        return Machine {
+            kind: DENSTREAM,
+            den: stream,
             ..m
         };
     }
@@ -102,6 +129,17 @@ fn change_db(line: &mut [u8], s: DbStream, r: Record) -> DbStream {
     let n = lists::cut(r.count, OPERANDS);
     if r.op == 3 {
         return db::insert(line, s, &xs[..n]);
+    }
+    say(line, b"ok");
+    s.cluster()
+}
+
+fn change_den(line: &mut [u8], s: DenStream, r: Record) -> DenStream {
+    let words = r.words;
+    let xs = doubles(words);
+    let n = lists::cut(r.count, OPERANDS);
+    if r.op == 3 {
+        return den::insert(line, s, &xs[..n]);
     }
     say(line, b"ok");
     s.cluster()
@@ -130,14 +168,29 @@ fn read_db(line: &mut [u8], s: DbStream, r: Record) {
     }
 }
 
-fn on_stream(line: &mut [u8], m: Machine, r: Record) -> Machine {
-    if r.op == 1 {
-        return open_db(line, m, r);
+fn read_den(line: &mut [u8], s: DenStream, r: Record) {
+    let words = r.words;
+    let xs = doubles(words);
+    let n = lists::cut(r.count, OPERANDS);
+    let op = r.op;
+    match op {
+        5 => den::labels(line, s, words[0] as usize),
+        6 => den::predict(line, s, &xs[..n]),
+        7 => den::statistics(
+            line,
+            s,
+            words[0] as usize,
+            words[1] as usize,
+            words[2] as usize,
+        ),
+        8 => say(line, b"none"),
+        9 => den::drift(line, s),
+        13 => den::figures(line, s),
+        _ => den::counts(line, s),
     }
-    if !m.has_db {
-        say(line, b"none");
-        return m;
-    }
+}
+
+fn on_db(line: &mut [u8], m: Machine, r: Record) -> Machine {
     let s = m.db;
     if r.op < 5 {
         return Machine {
@@ -146,6 +199,35 @@ fn on_stream(line: &mut [u8], m: Machine, r: Record) -> Machine {
         };
     }
     read_db(line, s, r);
+    m
+}
+
+fn on_den(line: &mut [u8], m: Machine, r: Record) -> Machine {
+    let s = m.den;
+    if r.op < 5 {
+        return Machine {
+            den: change_den(line, s, r),
+            ..m
+        };
+    }
+    read_den(line, s, r);
+    m
+}
+
+fn on_stream(line: &mut [u8], m: Machine, r: Record) -> Machine {
+    if r.op == DBSTREAM {
+        return open_db(line, m, r);
+    }
+    if r.op == DENSTREAM {
+        return open_den(line, m, r);
+    }
+    if m.kind == DBSTREAM {
+        return on_db(line, m, r);
+    }
+    if m.kind == DENSTREAM {
+        return on_den(line, m, r);
+    }
+    say(line, b"none");
     m
 }
 
@@ -180,11 +262,14 @@ fn turn(line: &mut [u8], m: Machine) -> Machine {
 
 fn main() {
     let mut line = [0u8; ROOM];
-    let refused = DbStream::new(0, 0.0, 0.0, 0.0, 0.0);
-    let db = refused.stream;
+    let no_db = DbStream::new(0, 0.0, 0.0, 0.0, 0.0);
+    let no_den = DenStream::new(0, 0.0, 0.0, 0.0, 0.0);
+    let db = no_db.stream;
+    let den = no_den.stream;
     let mut m = Machine {
+        kind: NONE,
         db,
-        has_db: false,
+        den,
         window: Adwin::new(0.0),
         has_window: false,
         running: true,

@@ -16,6 +16,9 @@ new-requires c κs = search needs
 new-requires-2 : tie.Need-new-requires-2 Inv-loop μ-loop
 new-requires-2 c κs = search needs
 
+new-requires-3 : tie.Need-new-requires-3 Inv-loop μ-loop
+new-requires-3 c κs = search needs
+
 loop-holds : tie.Need-loop-holds Inv-loop μ-loop
 loop-holds c = refl
 
@@ -48,6 +51,7 @@ main-spec =
     μ-loop
     new-requires
     new-requires-2
+    new-requires-3
     loop-holds
     slice-aggregate-turn
     turn-requires

@@ -1,0 +1,115 @@
+// The operations on a DenStream.
+use crate::answers::say_insertion;
+use crate::answers::say_prediction;
+use crate::figures::CENTRES;
+use crate::figures::put_feature;
+use crate::figures::put_labels;
+use crate::figures::put_monitor;
+use crate::figures::say_counts;
+use crate::figures::say_drift;
+use crate::figures::say_statistics;
+use crate::output::end;
+use crate::output::put;
+use crate::output::put_number;
+use crate::output::put_whole;
+use crate::output::say;
+use denstream::DenStream;
+use model::MICROS;
+use model::Micro;
+use model::Reading;
+
+pub fn insert(line: &mut [u8], s: DenStream, x: &[f64]) -> DenStream {
+    let r = s.try_insert(x);
+    let next = r.stream;
+    let answer = r.answer;
+    say_insertion(line, answer);
+    next
+}
+
+// The labels, into a slice of that length.
+pub fn labels(line: &mut [u8], s: DenStream, capacity: usize) {
+    let count = s.label_count;
+    let mut out = [0i64; MICROS];
+    let n = lists::cut(capacity, MICROS);
+    let answer = s.labels(&mut out[..n]);
+    let Reading::Written = answer else {
+        say(line, b"refused 10");
+        return;
+    };
+    let head = put(line, 0, b"labels");
+    let at = put_labels(line, head, out, count);
+    end(line, at);
+}
+
+pub fn predict(line: &mut [u8], s: DenStream, x: &[f64]) {
+    let answer = s.try_predict(x);
+    say_prediction(line, answer);
+}
+
+// Centres, weights and radii, into slices of these lengths.
+pub fn statistics(line: &mut [u8], s: DenStream, c: usize, w: usize, r: usize) {
+    let mut centres = [0.0; CENTRES];
+    let mut weights = [0.0; MICROS];
+    let mut radii = [0.0; MICROS];
+    let cs = lists::cut(c, CENTRES);
+    let ws = lists::cut(w, MICROS);
+    let rs = lists::cut(r, MICROS);
+    let n = s.potential_count();
+    let dim = s.dim();
+    let answer = s.potential_stats(&mut centres[..cs], &mut weights[..ws], &mut radii[..rs]);
+    let Reading::Written = answer else {
+        say(line, b"refused 10");
+        return;
+    };
+    say_statistics(line, n, dim, centres, weights, radii);
+}
+
+pub fn drift(line: &mut [u8], s: DenStream) {
+    let report = s.drift();
+    say_drift(line, report);
+}
+
+pub fn counts(line: &mut [u8], s: DenStream) {
+    say_counts(line, s.dim(), s.potential_count(), s.n_clusters());
+}
+
+fn put_micro(line: &mut [u8], from: usize, m: Micro, dim: usize) -> usize {
+    let cf = m.cf;
+    let l = put_whole(line, from, m.last);
+    let at = put_whole(line, l, m.t0);
+    put_feature(line, at, cf, dim)
+}
+
+fn put_micros(
+    line: &mut [u8],
+    from: usize,
+    micros: [Micro; MICROS],
+    n: usize,
+    dim: usize,
+) -> usize {
+    let k = lists::cut(n, MICROS);
+    let mut at = put_number(line, from, k as u64);
+    let mut i: usize = 0;
+    while i < k {
+        let m = micros[i];
+        at = put_micro(line, at, m, dim);
+        i += 1;
+    }
+    at
+}
+
+// Every kept figure.
+pub fn figures(line: &mut [u8], s: DenStream) {
+    let potential = s.potential;
+    let outliers = s.outliers;
+    let kept = s.labels;
+    let monitor = s.drift;
+    let dim = s.dim();
+    let head = put(line, 0, b"den");
+    let t = put_whole(line, head, s.t);
+    let p = put_micros(line, t, potential, s.potential_count, dim);
+    let o = put_micros(line, p, outliers, s.outlier_count, dim);
+    let k = put_labels(line, o, kept, s.label_count);
+    let d = put_monitor(line, k, monitor);
+    end(line, d);
+}
