@@ -1,12 +1,13 @@
 -- An insert into the arrays, seen through the view.
 use Prim.Native.Nat.{ℕ, _+_, _%_, _^_, _≤_, _<_, min}
 use native.Mathlib.Omega.{arith}
-use mathlib.Core.Path.{_≡_, refl, sym, ap, ap₂, _∙_}
-use mathlib.Core.Logic.{_≢_}
+use native.Mathlib.Decide.{ℕ-discrete}
+use mathlib.Core.Path.{_≡_, refl, sym, ap, ap₂, subst, _∙_}
+use mathlib.Core.Logic.{_≢_, by-cases}
 use mathlib.Core.List.{List, [], _∷_, _++_, map, foldl}
-use mathlib.Core.Bool.{Bool, true, false, cond, _||_}
-use borrow.Author.Tests.{eq-eqb, ne-eqb, lt-ltb}
-use lib.Dec.{eqb, ltb}
+use mathlib.Core.Bool.{Bool, true, false, not, cond, _||_}
+use borrow.Author.Tests.{eq-eqb, ne-eqb, lt-ltb, le-ltb}
+use lib.Dec.{T, eqb, ltb, ltb→lt}
 use lib.Ieee.{Float, lt}
 use lib.ListN.{length, take, set, length-take}
 use lib.Seq.{take-all, length-take-le}
@@ -15,53 +16,96 @@ use Rattle.lists.specs.Retain.{retain}
 use Rattle.lists.specs.Rest.{cut-take}
 use Rattle.lists.specs.Maps.{map-length}
 use Rattle.feature.specs.Feature.{maxDim}
-use Rattle.drift.specs.declared.Nearest.{Nearest}
 use Rattle.drift.specs.Monitor as drift
 use Rattle.model.specs.declared.micro.MicroId.{MicroId}
 use Rattle.model.specs.declared.micro.DbMicro.{DbMicro}
 use Rattle.model.specs.declared.link.Link.{Link}
+use Rattle.model.specs.declared.answers.Insertion.{Insertion}
 use Rattle.model.specs.declared.answers.Insertion.the-variants.{Done, Shape, ClockAtLimit, NoPlace}
 use Rattle.model.specs.Any.{any}
 use Rattle.model.specs.Limits.{clockLimit, microsMost}
+use Rattle.model.specs.Answers.{insertionNumber}
+use Rattle.model.specs.Questions.{insertionAsked}
+use Rattle.model.specs.Outcome.{outcome}
 use Rattle.model.specs.DbState.{State}
-use Rattle.model.specs.DbInsert.{isNeighbour, neighboursOf, isAbsorbed, leastOf, distancesOf, newborn, absorbs, absorbed, pairsOf, gainOf, born, idOf, joined, placed, tickOf, takenOf, hasPlace, insertOf}
+use Rattle.model.specs.DbInsert.{isNeighbour, neighboursOf, isAbsorbed, leastOf, newborn, absorbs, absorbed, pairsOf, gainOf, born, idOf, joined, placed, tickOf, takenOf, hasPlace, nearestFor, insertOf}
+use Rattle.micro.specs.declared.scan.Scan.{Scan}
 use Rattle.micro.specs.Held.{cutTo, held, distancesTo}
-use Rattle.micro.specs.Near.{nearIds, absorbNear}
-use Rattle.micro.specs.Views.{ids-view, absorb-view, newborn-view, appended}
+use Rattle.micro.specs.Near.{absorbNear}
+use Rattle.micro.specs.Scanned.{Scanned}
+use Rattle.micro.specs.Views.{absorb-view, newborn-view, appended}
 use Rattle.dbstream.specs.declared.DbStream.{DbStream}
 use Rattle.dbstream.specs.Stream.{view, dimOf, settingsOf}
 
 -- ---- the questions
-module _ (s : State) (x : List Float) where
-  refuse-shape : eqb (length x) (s .settings .dim) ≡ false → record { answer = Shape (s .settings .dim) (length x); stream = s } ≡ insertOf s x
-  unfolding insertOf
-  refuse-shape a = sym (rw a)
+abbrev pub room : (absorbing held : ℕ) → Bool
+room absorbing held = not (eqb absorbing 0) || ltb held microsMost
 
-  pub refuse-clock : eqb (length x) (s .settings .dim) ≡ true → lt (s .t) clockLimit ≡ false → record { answer = ClockAtLimit; stream = s } ≡ insertOf s x
-  unfolding insertOf
-  refuse-clock a b = sym (rw (a, b))
+module _ (dim got : ℕ) (t : Float) (k n : ℕ) where
+  pub asked-length : got ≢ dim → Shape dim got ≡ insertionAsked dim got t (room k n)
+  asked-length a = sym (rw (ne-eqb got dim a))
 
-  pub refuse-place :
-      eqb (length x) (s .settings .dim) ≡ true → lt (s .t) clockLimit ≡ true → isAbsorbed s x ≡ false → ltb (length (s .micros)) microsMost ≡ false →
-      record { answer = NoPlace; stream = s } ≡ insertOf s x
-  unfolding insertOf
-  refuse-place a b c d = sym (rw (a, b, c, d))
+  pub asked-clock : got ≡ dim → lt t clockLimit ≡ false → ClockAtLimit ≡ insertionAsked dim got t (room k n)
+  asked-clock a b = sym (rw (eq-eqb got dim a, b))
 
-  accept :
-      eqb (length x) (s .settings .dim) ≡ true → lt (s .t) clockLimit ≡ true → hasPlace s x ≡ true →
-      record { answer = Done; stream = takenOf s x } ≡ insertOf s x
-  unfolding insertOf
-  accept a b c = sym (rw (a, b, c))
+  pub asked-full : got ≡ dim → lt t clockLimit ≡ true → k ≡ 0 → microsMost ≤ n → NoPlace ≡ insertionAsked dim got t (room k n)
+  asked-full a b c d = sym (rw (eq-eqb got dim a, b, eq-eqb k 0 c, le-ltb n microsMost d))
 
-pub refuse-length : (s : DbStream) (x : List Float) (d : ℕ) → d ≡ dimOf s → length x ≢ d → record { answer = Shape d (length x); stream = view s } ≡ insertOf (view s) x
-refuse-length s x d e h = rw e (refuse-shape (view s) x (ne-eqb (length x) (dimOf s) (λ q. h (q ∙ sym e))))
+  pub asked-free : got ≡ dim → lt t clockLimit ≡ true → k ≡ 0 → n < microsMost → Done ≡ insertionAsked dim got t (room k n)
+  asked-free a b c d = sym (rw (eq-eqb got dim a, b, eq-eqb k 0 c, lt-ltb n microsMost d))
 
-either : (a b : Bool) → b ≡ true → a || b ≡ true
-either true b e = refl
-either false b e = e
+  pub asked-some : got ≡ dim → lt t clockLimit ≡ true → k ≢ 0 → Done ≡ insertionAsked dim got t (room k n)
+  asked-some a b c = sym (rw (eq-eqb got dim a, b, ne-eqb k 0 c))
 
-pub not-none : (k : ℕ) → k ≢ 0 → 0 < k
-not-none k h = omega (arith, h)
+-- a point that is taken has dim coordinates, and a place
+never : {A : Type 0} → false ≡ true → A
+never e = let z : _≡_ {A = ℕ} 0 1 = cc in absurd (omega arith)
+
+taken-length : (dim got : ℕ) (t : Float) (place : Bool) → eqb (insertionNumber (insertionAsked dim got t place)) 0 ≡ true → got ≡ dim
+taken-length dim got t place e =
+    by-cases (ℕ-discrete got dim) (λ h. h)
+    (λ h. never (sym (ap (λ (b : Bool). eqb (insertionNumber (cond b (cond (lt t clockLimit) (cond place Done NoPlace) ClockAtLimit) (Shape dim got))) 0) (ne-eqb got dim h)) ∙ e))
+
+taken-place : (dim got : ℕ) (t : Float) (place : Bool) → eqb (insertionNumber (insertionAsked dim got t place)) 0 ≡ true → place ≡ true
+taken-place dim got t place e = go (eqb got dim) (lt t clockLimit) place e
+  where
+    go : (a b p : Bool) → eqb (insertionNumber (cond a (cond b (cond p Done NoPlace) ClockAtLimit) (Shape dim got))) 0 ≡ true → p ≡ true
+    go true true true e = refl
+    go true true false e = never e
+    go true false p e = never e
+    go false b p e = never e
+
+module _ (a : Insertion) (dim got : ℕ) (t : Float) (k n : ℕ) (e : a ≡ insertionAsked dim got t (room k n)) (done : eqb (insertionNumber a) 0 ≡ true) where
+  answered : eqb (insertionNumber (insertionAsked dim got t (room k n))) 0 ≡ true
+  answered = ap (λ (q : Insertion). eqb (insertionNumber q) 0) (sym e) ∙ done
+
+  has-length : got ≡ dim
+  has-length = taken-length dim got t (room k n) answered
+
+  has-free : k ≡ 0 → n < microsMost
+  has-free h =
+      let p : room k n ≡ true = taken-place dim got t (room k n) answered in
+      let q : ltb n microsMost ≡ true = ap (λ (b : Bool). not b || ltb n microsMost) (sym (eq-eqb k 0 h)) ∙ p in
+      ltb→lt n microsMost (subst T (sym q) tt)
+
+-- what becomes of the stream goes by the answer
+outcome-refused : (a : Insertion) (came taken : State) → eqb (insertionNumber a) 0 ≡ false → record { answer = a; stream = came } ≡ outcome a came taken
+outcome-refused Done came taken e = never (sym e)
+outcome-refused (Shape expected got) came taken e = refl
+outcome-refused ClockAtLimit came taken e = refl
+outcome-refused NoPlace came taken e = refl
+
+outcome-done : (a : Insertion) (came taken : State) → eqb (insertionNumber a) 0 ≡ true → record { answer = a; stream = taken } ≡ outcome a came taken
+outcome-done Done came taken e = refl
+outcome-done (Shape expected got) came taken e = never e
+outcome-done ClockAtLimit came taken e = never e
+outcome-done NoPlace came taken e = never e
+
+pub no-refusal : (a : Insertion) → eqb (insertionNumber a) 0 ≡ true → insertionNumber a ≡ 0
+no-refusal Done e = refl
+no-refusal (Shape expected got) e = never e
+no-refusal ClockAtLimit e = never e
+no-refusal NoPlace e = never e
 
 -- ---- lists: p holds of one where one is retained; fewer than two make no pair; a whole point
 any-none : {A : Type 0} (p : A → Bool) (l : List A) → length (retain p l) ≡ 0 → any p l ≡ false
@@ -106,51 +150,47 @@ cleared s =
       drift = view s .drift;
     }
 
--- what the scan of the micro-clusters tells of s and x: n are held, at distances ds, and k are neighbours, of the creation numbers ids; x is kept as y
-pub record Scanned (s : DbStream) (x y : List Float) (n : ℕ) (ds : List Float) (k : ℕ) (ids : List MicroId) : Type 0 where
-  pub ex : length x ≡ dimOf s
-  pub ey : y ≡ x
-  pub en : n ≡ min (s .count) microsMost
-  pub lm : length (s .micros) ≡ microsMost
-  pub eds : take n ds ≡ distancesTo y (held (dimOf s) n (s .micros))
-  pub hk : k ≤ microsMost
-  pub li : length ids ≡ microsMost
-  pub eids : take k ids ≡ nearIds (s .r ⊗ s .r) (take n ds) (take n (s .micros))
+-- what is known once the micro-clusters are scanned for x, of which y is the first d places: n are held
+pub record Met (s : DbStream) (x y : List Float) (d n : ℕ) (f : Scan) : Type 0 where
+  pub coordinates : d ≡ dimOf s
+  pub point : length x ≡ d → y ≡ x
+  pub held-is : n ≡ min (s .count) microsMost
+  pub places : length (s .micros) ≡ microsMost
+  pub ids-places : length (f .ids) ≡ microsMost
+  pub scanned : Scanned (s .r) y d n (s .micros) f
 
-module _ {s : DbStream} {x y : List Float} {n : ℕ} {ds : List Float} {k : ℕ} {ids : List MicroId} (f : Scanned s x y n ds k ids) where
+-- of a point of dim coordinates
+module _ {s : DbStream} {x y : List Float} {d n : ℕ} {f : Scan} (m : Met s x y d n f) (ex : length x ≡ d) where
   kept : take n (s .micros) ≡ take (s .count) (s .micros)
-  kept = cut-take n (s .count) microsMost (s .micros) (f .en) (f .lm)
+  kept = cut-take n (s .count) microsMost (s .micros) (m .held-is) (m .places)
 
-  measured : take n ds ≡ distancesTo x (held (dimOf s) n (s .micros))
-  measured = f .eds ∙ ap (λ (q : List Float). distancesTo q (held (dimOf s) n (s .micros))) (f .ey)
+  met : Scanned (s .r) x (dimOf s) n (s .micros) f
+  met =
+      subst (λ (z : List Float). Scanned (s .r) z (dimOf s) n (s .micros) f) (m .point ex)
+      (subst (λ (q : ℕ). Scanned (s .r) y q n (s .micros) f) (m .coordinates) (m .scanned))
 
-  ids-are : take k ids ≡ map idOf (neighboursOf (view s) x)
-  ids-are =
-      f .eids ∙ ap (λ (q : List Float). nearIds (s .r ⊗ s .r) q (take n (s .micros))) measured
-      ∙ ids-view (dimOf s) x (s .r) (take n (s .micros))
-      ∙ ap (λ (l : List DbMicro). map idOf (retain (isNeighbour (s .r) x) (map (cutTo (dimOf s)) l))) kept
+  ids-are : take (f .count) (f .ids) ≡ map idOf (neighboursOf (view s) x)
+  ids-are = met .neighbours ∙ ap (λ (l : List DbMicro). map idOf (retain (isNeighbour (s .r) x) (map (cutTo (dimOf s)) l))) kept
 
-  k-is : length (neighboursOf (view s) x) ≡ k
-  k-is = sym (map-length idOf (neighboursOf (view s) x)) ∙ sym (ap length ids-are) ∙ length-take-le k ids (omega arith)
+  k-is : length (neighboursOf (view s) x) ≡ f .count
+  k-is = sym (map-length idOf (neighboursOf (view s) x)) ∙ sym (ap length ids-are) ∙ length-take-le (f .count) (f .ids) (omega (arith, met .places))
 
-  pub none : k ≡ 0 → isAbsorbed (view s) x ≡ false
+  none : f .count ≡ 0 → isAbsorbed (view s) x ≡ false
   none h = any-none (isNeighbour (s .r) x) (view s .micros) (k-is ∙ h)
 
-  some : 0 < k → isAbsorbed (view s) x ≡ true
-  some h = any-some (isNeighbour (s .r) x) (view s .micros) (omega (arith, k-is))
+  some : f .count ≢ 0 → isAbsorbed (view s) x ≡ true
+  some h = any-some (isNeighbour (s .r) x) (view s .micros) (omega (arith, k-is, h))
 
-  pub count-is : length (view s .micros) ≡ n
-  count-is = map-length (cutTo (dimOf s)) (take (s .count) (s .micros)) ∙ sym (ap length kept) ∙ length-take-le n (s .micros) (omega arith)
+  size : length (view s .micros) ≡ n
+  size = map-length (cutTo (dimOf s)) (take (s .count) (s .micros)) ∙ sym (ap length kept) ∙ length-take-le n (s .micros) (omega arith)
 
-  -- a place for the point: it is absorbed, or there is one free
-  pub room-some : 0 < k → hasPlace (view s) x ≡ true
-  room-some h = rw (some h)
+  place-is : room (f .count) n ≡ hasPlace (view s) x
+  place-is =
+      ap₂ (λ (a : Bool) (q : ℕ). a || ltb q microsMost)
+      (by-cases (ℕ-discrete (f .count) 0) (λ h. ap not (eq-eqb (f .count) 0 h) ∙ sym (none h)) (λ h. ap not (ne-eqb (f .count) 0 h) ∙ sym (some h))) (sym size)
 
-  pub room-free : n < microsMost → hasPlace (view s) x ≡ true
-  room-free h = either (isAbsorbed (view s) x) (ltb (length (view s .micros)) microsMost) (lt-ltb (length (view s .micros)) microsMost (omega (arith, count-is)))
-
-  nearest-is : leastOf (take n ds) ≡ leastOf (distancesOf (view s) x)
-  nearest-is = ap leastOf (measured ∙ ap (λ (l : List DbMicro). distancesTo x (map (cutTo (dimOf s)) l)) kept)
+  nearest-is : f .nearest ≡ nearestFor (view s) x
+  nearest-is = met .nearest ∙ ap (λ (l : List DbMicro). leastOf (distancesTo x (map (cutTo (dimOf s)) l))) kept
 
   abbrev after : ℕ → List DbMicro → List Link → State
   after next ms ls =
@@ -167,45 +207,69 @@ module _ {s : DbStream} {x y : List Float} {n : ℕ} {ds : List Float} {k : ℕ}
       }
 
   pub born-is :
-      (m : DbMicro) (next : ℕ) → k ≡ 0 → n < microsMost → m ≡ newborn maxDim (record { 0 = s .«next_id» }) (s .t) y → next ≡ (s .«next_id» + 1) % 2 ^ 64 →
-      after next (held (dimOf s) (n + 1) (set (s .micros) n m)) (view s .links) ≡ placed (view s) x
-  born-is m next zero-k room em enext =
+      (b : DbMicro) (next : ℕ) → f .count ≡ 0 → n < microsMost → b ≡ newborn maxDim (record { 0 = s .«next_id» }) (s .t) y → next ≡ (s .«next_id» + 1) % 2 ^ 64 →
+      after next (held (dimOf s) (n + 1) (set (s .micros) n b)) (view s .links) ≡ placed (view s) x
+  born-is b next zero-k free eb enext =
       ap₂ (λ (q : ℕ) (ms : List DbMicro). after q ms (view s .links)) enext micros-are
-      ∙ sym (ap (λ (b : Bool). cond b (joined (view s) x) (born (view s) x)) (none zero-k))
+      ∙ sym (ap (λ (c : Bool). cond c (joined (view s) x) (born (view s) x)) (none zero-k))
     where
-      micros-are : held (dimOf s) (n + 1) (set (s .micros) n m) ≡ view s .micros ++ newborn (dimOf s) (record { 0 = s .«next_id» }) (s .t) x ∷ []
+      exact : length x ≡ dimOf s
+      exact = ex ∙ m .coordinates
+
+      micros-are : held (dimOf s) (n + 1) (set (s .micros) n b) ≡ view s .micros ++ newborn (dimOf s) (record { 0 = s .«next_id» }) (s .t) x ∷ []
       micros-are =
-          appended (dimOf s) n (s .micros) m (omega arith)
+          appended (dimOf s) n (s .micros) b (omega arith)
           ∙ ap₂ (λ (l : List DbMicro) (v : DbMicro). map (cutTo (dimOf s)) l ++ v ∷ []) kept
-          (ap (cutTo (dimOf s)) (em ∙ ap (newborn maxDim (record { 0 = s .«next_id» }) (s .t)) (f .ey)) ∙ newborn-view (dimOf s) x (f .ex) (omega arith) (s .t) (record { 0 = s .«next_id» }))
+          (ap (cutTo (dimOf s)) (eb ∙ ap (newborn maxDim (record { 0 = s .«next_id» }) (s .t)) (m .point ex)) ∙ newborn-view (dimOf s) x exact (omega arith) (s .t) (record { 0 = s .«next_id» }))
 
   pub joined-is :
-      (grown : List DbMicro) (ls : List Link) → 0 < k →
-      take n grown ≡ absorbNear (s .r ⊗ s .r) (absorbs (s .lambda) (s .t) y) (take n ds) (take n (s .micros)) →
-      ls ≡ foldl (gainOf (s .lambda) (s .t)) (view s .links) (pairsOf (take k ids)) →
+      (grown : List DbMicro) (ls : List Link) → f .count ≢ 0 →
+      take n grown ≡ absorbNear (s .r ⊗ s .r) (absorbs (s .lambda) (s .t) y) (take n (f .distances)) (take n (s .micros)) →
+      ls ≡ foldl (gainOf (s .lambda) (s .t)) (view s .links) (pairsOf (take (f .count) (f .ids))) →
       after (s .«next_id») (held (dimOf s) n grown) ls ≡ placed (view s) x
   joined-is grown ls some-k egrown els =
       ap₂ (after (s .«next_id»)) micros-are (els ∙ ap (λ (q : List MicroId). foldl (gainOf (s .lambda) (s .t)) (view s .links) (pairsOf q)) ids-are)
-      ∙ sym (ap (λ (b : Bool). cond b (joined (view s) x) (born (view s) x)) (some some-k))
+      ∙ sym (ap (λ (c : Bool). cond c (joined (view s) x) (born (view s) x)) (some some-k))
     where
       micros-are : held (dimOf s) n grown ≡ map (absorbed (s .r) (s .lambda) (s .t) x) (view s .micros)
       micros-are =
           ap (map (cutTo (dimOf s)))
-          (egrown ∙ ap₂ (λ (z q : List Float). absorbNear (s .r ⊗ s .r) (absorbs (s .lambda) (s .t) z) q (take n (s .micros))) (f .ey) measured)
-          ∙ absorb-view (dimOf s) x (f .ex) (s .r) (s .lambda) (s .t) (take n (s .micros))
+          (egrown ∙ ap₂ (λ (z q : List Float). absorbNear (s .r ⊗ s .r) (absorbs (s .lambda) (s .t) z) q (take n (s .micros))) (m .point ex) (met .measured))
+          ∙ absorb-view (dimOf s) x (ex ∙ m .coordinates) (s .r) (s .lambda) (s .t) (take n (s .micros))
           ∙ ap (λ (l : List DbMicro). map (absorbed (s .r) (s .lambda) (s .t) x) (map (cutTo (dimOf s)) l)) kept
 
   -- no pair, no gain
-  pub links-stay : k ≤ 1 → view s .links ≡ foldl (gainOf (s .lambda) (s .t)) (view s .links) (pairsOf (take k ids))
+  pub links-stay : f .count ≤ 1 → view s .links ≡ foldl (gainOf (s .lambda) (s .t)) (view s .links) (pairsOf (take (f .count) (f .ids)))
   links-stay h =
-      let few : length (take k ids) ≤ 1 = omega (arith, length-take k ids) in
-      ap (foldl (gainOf (s .lambda) (s .t)) (view s .links)) (sym (no-pair (take k ids) few))
+      let few : length (take (f .count) (f .ids)) ≤ 1 = omega (arith, length-take (f .count) (f .ids)) in
+      ap (foldl (gainOf (s .lambda) (s .t)) (view s .links)) (sym (no-pair (take (f .count) (f .ids)) few))
 
--- ---- the whole insert: what the tick made of the stream
-pub accepted :
-    {s : DbStream} {x y : List Float} {n : ℕ} {ds : List Float} {k : ℕ} {ids : List MicroId} (f : Scanned s x y n ds k ids) (u : State) (near : Nearest) (v : State) →
-    lt (s .t) clockLimit ≡ true → hasPlace (view s) x ≡ true → u ≡ placed (view s) x → near ≡ leastOf (take n ds) → v ≡ tickOf u near →
-    record { answer = Done; stream = v } ≡ insertOf (view s) x
-accepted {s} {x} f u near v clock room eu enear ev =
-    ap (λ (w : State). record { answer = Done; stream = w }) (ev ∙ ap₂ tickOf eu (enear ∙ nearest-is f))
-    ∙ accept (view s) x (eq-eqb (length x) (dimOf s) (f .ex)) clock room
+-- ---- the whole insert
+module _ {s : DbStream} {x y : List Float} {d n : ℕ} {f : Scan} (m : Met s x y d n f) (a : Insertion) (e : a ≡ insertionAsked d (length x) (s .t) (room (f .count) n)) where
+  -- the answer is document 01's: a point of another length has no other answer, whatever the scan says
+  answer-is : a ≡ insertionAsked (dimOf s) (length x) (s .t) (hasPlace (view s) x)
+  answer-is =
+      e ∙ ap (λ (q : ℕ). insertionAsked q (length x) (s .t) (room (f .count) n)) (m .coordinates)
+      ∙ by-cases (ℕ-discrete (length x) d) (λ h. ap (insertionAsked (dimOf s) (length x) (s .t)) (place-is m h))
+      (λ h.
+      let g : eqb (length x) (dimOf s) ≡ false = ne-eqb (length x) (dimOf s) (λ q. h (q ∙ sym (m .coordinates))) in
+      ap (λ (b : Bool). cond b (cond (lt (s .t) clockLimit) (cond (room (f .count) n) Done NoPlace) ClockAtLimit) (Shape (dimOf s) (length x))) g
+      ∙ sym (ap (λ (b : Bool). cond b (cond (lt (s .t) clockLimit) (cond (hasPlace (view s) x) Done NoPlace) ClockAtLimit) (Shape (dimOf s) (length x))) g))
+
+  pub exact : eqb (insertionNumber a) 0 ≡ true → length x ≡ d
+  exact h = has-length a d (length x) (s .t) (f .count) n e h
+
+  pub free : eqb (insertionNumber a) 0 ≡ true → f .count ≡ 0 → n < microsMost
+  free h = has-free a d (length x) (s .t) (f .count) n e h
+
+  pub refused : eqb (insertionNumber a) 0 ≡ false → record { answer = a; stream = view s } ≡ insertOf (view s) x
+  unfolding insertOf
+  refused h = outcome-refused a (view s) (takenOf (view s) x) h ∙ ap (λ (q : Insertion). outcome q (view s) (takenOf (view s) x)) answer-is
+
+  pub accepted :
+      (u v : State) → eqb (insertionNumber a) 0 ≡ true → u ≡ placed (view s) x → v ≡ tickOf u (f .nearest) →
+      record { answer = a; stream = v } ≡ insertOf (view s) x
+  unfolding insertOf
+  accepted u v h eu ev =
+      ap (λ (w : State). record { answer = a; stream = w }) (ev ∙ ap₂ tickOf eu (nearest-is m (exact h)))
+      ∙ outcome-done a (view s) (takenOf (view s) x) h ∙ ap (λ (q : Insertion). outcome q (view s) (takenOf (view s) x)) answer-is

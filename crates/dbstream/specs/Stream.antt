@@ -4,7 +4,6 @@ use lib.Ieee.{Float}
 use lib.ListN.{take}
 use Rattle.feature.specs.Feature.{maxDim}
 use Rattle.drift.specs.Monitor as drift
-use Rattle.model.specs.declared.answers.Insertion.{Insertion}
 use Rattle.model.specs.Outcome as outcome
 use Rattle.model.specs.DbState.{Settings, State}
 use Rattle.micro.specs.Held.{held}
@@ -44,6 +43,3 @@ openedTold o = record { answer = o .answer; stream = view (o .stream) }
 -- what an insert tells
 abbrev pub insertedTold : Inserted → outcome.Outcome State
 insertedTold r = record { answer = r .answer; stream = view (r .stream) }
-
-abbrev pub inserted : Insertion → DbStream → Inserted
-inserted answer stream = record { answer = answer; stream = stream }

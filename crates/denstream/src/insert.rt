@@ -23,18 +23,20 @@ impl DenStream {
     fn tick(mut self, near: Nearest) -> Self
         ensures { λ r. ⌜ view r ≡ tickOf (view self) near ⌝ }
     {
+        let t = self.t;
+        let grown = t + 1.0;
         let monitor = self.drift;
-        let observed = monitor.observe(near, self.t);
-        self.drift = observed;
-        self.t = self.t + 1.0;
+        let observed = monitor.observe(near, t);
         let params = self.params;
-        if model::is_multiple(self.t, params.tp) {
+        self.drift = observed;
+        self.t = grown;
+        if model::is_multiple(grown, params.tp) {
             let np = placement::potential_held(self.potential_count);
             let no = placement::outliers_held(self.potential_count, self.outlier_count);
             let potential = self.potential;
             let outliers = self.outliers;
-            let p = pool::prune_potential(potential, np, params, self.t);
-            let o = pool::prune_outliers(outliers, no, params, self.t);
+            let p = pool::prune_potential(potential, np, params, grown);
+            let o = pool::prune_outliers(outliers, no, params, grown);
             let potential_left = p.micros;
             let outliers_left = o.micros;
             self.potential = potential_left;

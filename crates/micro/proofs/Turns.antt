@@ -1,11 +1,11 @@
--- The definitions of the least distance, the neighbours, the absorption and the stored weight, as a counting loop goes through them.
+-- The definitions of the least distance, a filter, the absorption and the stored weight, as a counting loop goes through them.
 use Prim.Native.Nat.{ℕ, _+_, _≤_, _<_, min}
 use native.Mathlib.Numerals.{add-one}
 use native.Mathlib.Omega.{arith}
 use mathlib.Core.Path.{_≡_}
 use mathlib.Core.Logic.{_≢_}
-use mathlib.Core.List.{List, _++_, foldl, append-nil}
-use mathlib.Core.Bool.{true, false}
+use mathlib.Core.List.{List, _++_, map, foldl, append-nil}
+use mathlib.Core.Bool.{Bool, true, false}
 use borrow.Author.Tests.{eq-eqb, ne-eqb}
 use lib.Ieee.{Float, nan, le}
 use lib.ListN.{length, take, getD, set}
@@ -21,7 +21,8 @@ use Rattle.model.specs.declared.micro.DbMicro.{DbMicro}
 use Rattle.model.specs.Fading.{absorbing, birth}
 use Rattle.model.specs.DbInsert.{leastOf, absorbs, newborn}
 use Rattle.model.specs.DbCluster.{storedWeight}
-use Rattle.micro.specs.Near.{nearIds, absorbNear}
+use Rattle.lists.specs.Retain.{retain}
+use Rattle.micro.specs.Near.{absorbNear}
 
 -- ---- the least distance
 module _ (n k : ℕ) (ds : List Float) (e : k ≡ min n 64) (l : length ds ≡ 64) where
@@ -35,23 +36,21 @@ module _ (n k : ℕ) (ds : List Float) (e : k ≡ min n 64) (l : length ds ≡ 6
       let b : k ≤ length ds = omega arith in
       rw (← cut-take k n 64 ds e l, ← rest-start k ds, rest-step k 0 ds nan)
 
--- ---- the neighbours' creation numbers
-module _ (r2 : Float) (n i : ℕ) (ds : List Float) (ms : List DbMicro) (z : DbMicro) (h : i < n) (kd : n ≤ length ds) (km : n ≤ length ms) (k : ℕ) (ids : List MicroId) where
-  pub near-take :
-      (v : MicroId) → k < length ids → v ≡ getD ms i z .id → le (getD ds i nan) r2 ≡ true →
-      take (k + 1) (set ids k v) ++ nearIds r2 (rest n (i + 1) ds) (rest n (i + 1) ms) ≡ take k ids ++ nearIds r2 (rest n i ds) (rest n i ms)
-  unfolding nearIds
-  near-take v o e t = rw (rest-step n i ds nan, rest-step n i ms z, t, ← e, add-one, take-suc-set ids k v, append-snoc (take k ids) v)
+-- ---- a filter into another array: `if p(l[i]) { out[k] = f(l[i]); k += 1; }` for i from 0
+module _ {A B : Type 0} (f : A → B) (p : A → Bool) (n i : ℕ) (l : List A) (z : A) (h : i < n) (fits : n ≤ length l) (k : ℕ) (out : List B) where
+  pub filter-take :
+      (v : B) → k < length out → v ≡ f (getD l i z) → p (getD l i z) ≡ true →
+      take (k + 1) (set out k v) ++ map f (retain p (rest n (i + 1) l)) ≡ take k out ++ map f (retain p (rest n i l))
+  unfolding retain
+  filter-take v o e t = rw (rest-step n i l z, t, ← e, add-one, take-suc-set out k v, append-snoc (take k out) v)
 
-  pub near-skip :
-      le (getD ds i nan) r2 ≡ false →
-      take k ids ++ nearIds r2 (rest n (i + 1) ds) (rest n (i + 1) ms) ≡ take k ids ++ nearIds r2 (rest n i ds) (rest n i ms)
-  unfolding nearIds
-  near-skip t = rw (rest-step n i ds nan, rest-step n i ms z, t)
+  pub filter-skip : p (getD l i z) ≡ false → take k out ++ map f (retain p (rest n (i + 1) l)) ≡ take k out ++ map f (retain p (rest n i l))
+  unfolding retain
+  filter-skip t = rw (rest-step n i l z, t)
 
-pub near-end : (r2 : Float) (n i : ℕ) (ds : List Float) (ms : List DbMicro) (k : ℕ) (ids : List MicroId) → n ≤ i → take k ids ++ nearIds r2 (rest n i ds) (rest n i ms) ≡ take k ids
-unfolding nearIds
-near-end r2 n i ds ms k ids h = rw (rest-end n i ds) (append-nil (take k ids))
+pub filter-end : {A B : Type 0} (f : A → B) (p : A → Bool) (n i : ℕ) (l : List A) (r : List B) → n ≤ i → r ++ map f (retain p (rest n i l)) ≡ r
+unfolding retain
+filter-end f p n i l r h = rw (rest-end n i l) (append-nil r)
 
 -- ---- absorption in place
 module _ (r2 : Float) (f : DbMicro → DbMicro) (n i : ℕ) (ds : List Float) (ms : List DbMicro) (z : DbMicro) (h : i < n) (kd : n ≤ length ds) (km : n ≤ length ms) where

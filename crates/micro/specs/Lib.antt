@@ -1,3 +1,4 @@
 pub mod Held
 pub mod Near
+pub mod Scanned
 pub mod Views

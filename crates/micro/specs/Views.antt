@@ -1,7 +1,7 @@
 -- What is done to the micro-clusters of an array is done to those of dim coordinates that they are. Assumes nothing.
 use Prim.Native.Nat.{ℕ, _+_, _≤_, _<_}
 use native.Mathlib.Numerals.{add-one}
-use mathlib.Core.Path.{_≡_, refl, ap, ap₂, _∙_}
+use mathlib.Core.Path.{_≡_, refl, sym, ap, ap₂, _∙_}
 use mathlib.Core.List.{List, [], _∷_, _++_, map}
 use mathlib.Core.Bool.{Bool, true, false, cond}
 use lib.Dec.{eqb}
@@ -17,29 +17,21 @@ use Rattle.feature.specs.Fade.{fadeOf}
 use Rattle.feature.specs.Within.{pushed-within, empty-within}
 use Rattle.model.specs.declared.micro.MicroId.{MicroId}
 use Rattle.model.specs.declared.micro.DbMicro.{DbMicro}
-use Rattle.model.specs.DbInsert.{isNeighbour, absorbs, absorbed, newborn, idOf, microStays}
+use Rattle.model.specs.DbInsert.{idOf, isNeighbour, absorbs, absorbed, newborn, microStays}
 use Rattle.model.specs.DbCluster.{storedWeight}
 use Rattle.micro.specs.Held.{cutTo, distancesTo}
-use Rattle.micro.specs.Near.{nearIds, absorbNear}
+use Rattle.micro.specs.Near.{absorbNear}
 
 pub map-map : {A B C : Type 0} (f : B → C) (g : A → B) (l : List A) → map f (map g l) ≡ map (λ (a : A). f (g a)) l
 map-map f g [] = refl
 map-map f g (x ∷ xs) = ap (λ r. f (g x) ∷ r) (map-map f g xs)
 
 -- ---- the neighbours
-pub ids-view :
-    (d : ℕ) (x : List Float) (r : Float) (l : List DbMicro) →
-    nearIds (r ⊗ r) (distancesTo x (map (cutTo d) l)) l ≡ map idOf (retain (isNeighbour r x) (map (cutTo d) l))
-unfolding nearIds retain
-ids-view d x r [] = refl
-ids-view d x r (m ∷ ms) = go (isNeighbour r x (cutTo d m)) (ids-view d x r ms)
-  where
-    go :
-        (b : Bool) → nearIds (r ⊗ r) (distancesTo x (map (cutTo d) ms)) ms ≡ map idOf (retain (isNeighbour r x) (map (cutTo d) ms)) →
-        cond b (m .id ∷ nearIds (r ⊗ r) (distancesTo x (map (cutTo d) ms)) ms) (nearIds (r ⊗ r) (distancesTo x (map (cutTo d) ms)) ms)
-        ≡ map idOf (cond b (cutTo d m ∷ retain (isNeighbour r x) (map (cutTo d) ms)) (retain (isNeighbour r x) (map (cutTo d) ms)))
-    go true e = ap (λ (q : List MicroId). m .id ∷ q) e
-    go false e = e
+abbrev pub isNear : (r : Float) (x : List Float) (d : ℕ) → DbMicro → Bool
+isNear r x d m = isNeighbour r x (cutTo d m)
+
+pub neighbours-view : (r : Float) (x : List Float) (d : ℕ) (l : List DbMicro) → map idOf (retain (isNear r x d) l) ≡ map idOf (retain (isNeighbour r x) (map (cutTo d) l))
+neighbours-view r x d l = sym (map-map idOf (cutTo d) (retain (isNear r x d) l)) ∙ ap (map idOf) (map-retain (cutTo d) (isNeighbour r x) l)
 
 -- ---- a point of as many coordinates
 module _ (d : ℕ) (x : List Float) (e : length x ≡ d) where

@@ -32,7 +32,7 @@ pub fn distances(
 }
 
 // The smallest of the first n distances; a NaN loses to a number.
-pub fn least(ds: [f64; MICROS], n: usize) -> Nearest
+pub(crate) fn least(ds: [f64; MICROS], n: usize) -> Nearest
     ensures { λ r. ⌜ r ≡ leastOf (take n ds) ⌝ }
 {
     let k = lists::cut(n, MICROS);

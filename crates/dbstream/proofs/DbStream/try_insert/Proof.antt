@@ -1,13 +1,9 @@
-use Prim.Native.Nat.{ℕ, _<_}
 use mathlib.Core.Path.{refl, sym, ap, _∙_}
 use mathlib.Core.Logic.{⊎-elim}
 use native.Mathlib.Omega.{arith}
-use lib.ListN.{length, take, length-map}
-use borrow.Author.Tests.{eq-eqb, le-ltb, not-true, not-false}
-use Rattle.micro.specs.Held.{held, distancesTo}
-use Rattle.dbstream.specs.declared.insert.Inserted.{Inserted}
-use Rattle.dbstream.specs.Stream.{view, dimOf, insertedTold}
-use Rattle.dbstream.proofs.Inserts.{refuse-length, refuse-clock, refuse-place, not-none, whole-point, Scanned, none, count-is, room-some, room-free, born-is, joined-is, links-stay, accepted, cleared}
+use borrow.Author.Tests.{not-true, not-false}
+use lib.ListN.{take, length-map}
+use Rattle.dbstream.proofs.Inserts.{Met, whole-point, exact, free, no-refusal, refused, accepted, cleared, born-is, joined-is, links-stay}
 use borrow.Author.Needs.{needs}
 use borrow.Author.Needs.{needs}
 use Rattle.dbstream.proofs.DbStream.try_insert.Statement.{statement}
@@ -16,77 +12,38 @@ use Rattle.dbstream.proofs.DbStream.try_insert.Tie as tie
 cut-requires : tie.Need-cut-requires
 cut-requires c κs = search needs
 
-refused-requires : tie.Need-refused-requires
-refused-requires c κs = search needs
-
-returns : tie.Need-returns
-returns c =
-    let e = c .before .before .before .before in
-    let s = e .args .t1 in
-    let x = e .args .x .now in (
-      ap insertedTold (c .refused .ensures) ∙ refuse-length s x (c .before .before .cut .result) (c .before .before .cut .ensures) (c .before .if1 .taken),
-      λ q. ap (λ (r : Inserted). r .stream) (c .refused .ensures),
-    )
-
-refused-requires-2 : tie.Need-refused-requires-2
-refused-requires-2 c κs = search needs
-
-returns-2 : tie.Need-returns-2
-returns-2 c =
-    let e = c .before .before .before .before .before in
-    let s = e .args .t1 in
-    let x = e .args .x .now in (
-      ap insertedTold (c .refused2 .ensures) ∙ refuse-clock (view s) x (eq-eqb (length x) (dimOf s) (c .before .before .if1 .left ∙ c .before .before .before .cut .ensures)) (not-true _ (c .before .if2 .taken)),
-      λ q. ap (λ (r : Inserted). r .stream) (c .refused2 .ensures),
-    )
-
 cut-requires-2 : tie.Need-cut-requires-2
 cut-requires-2 c κs = search needs
 
 padded-requires : tie.Need-padded-requires
 padded-requires c κs = search needs
 
-distances-requires : tie.Need-distances-requires
-distances-requires c κs = search needs
+scan-for-requires : tie.Need-scan-for-requires
+scan-for-requires c κs = search needs
 
-least-requires : tie.Need-least-requires
-least-requires c κs = search needs
+asked-requires : tie.Need-asked-requires
+asked-requires c κs = search needs
 
-neighbours-requires : tie.Need-neighbours-requires
-neighbours-requires c κs = search needs
+is-done-requires : tie.Need-is-done-requires
+is-done-requires c κs = search needs
 
-refused-requires-3 : tie.Need-refused-requires-3
-refused-requires-3 c κs = search needs
-
--- what the scan tells, once the neighbours are known
-scanned :
-    (c : tie.After-neighbours) →
-    Scanned (c .before .before .before .before .before .before .before .before .before .before .args .t1) (c .before .before .before .before .before .before .before .before .before .before .args .x .now) (take (c .before .before .before .before .before .before .before .before .cut .result) (c .before .before .before .before .padded .result)) (c .before .before .before .before .before .cut2 .result) (c .before .before .distances .result) (c .neighbours .result .count) (c .neighbours .result .ids)
-scanned c =
-    let e = c .before .before .before .before .before .before .before .before .before .before in
+-- what is known once the micro-clusters are scanned
+met : (c : tie.After-scan-for) → Met (c .before .before .before .before .before .before .args .t1) (c .before .before .before .before .before .before .args .x .now) (take (c .before .before .before .before .cut .result) (c .before .before .padded .result)) (c .before .before .before .before .cut .result) (c .before .before .before .cut2 .result) (c .scan-for .result)
+met c =
+    let e = c .before .before .before .before .before .before in
     let s = e .args .t1 in
-    let d = c .before .before .before .before .before .before .before .before .cut .ensures in
+    let d = c .before .before .before .before .cut .ensures in
     record {
-      ex = c .before .before .before .before .before .before .before .if1 .left ∙ d;
-      ey = whole-point (e .args .x .now) (c .before .before .before .before .padded .result) (c .before .before .before .before .before .before .before .before .cut .result) (c .before .before .before .before .before .before .before .if1 .left) (omega (arith, d)) (c .before .before .before .before .padded .ensures);
-      en = c .before .before .before .before .before .cut2 .ensures;
-      lm = sym (length-map (s .micros) _) ∙ e .good .0 .1 .1 .1 .1 .1 .1 .1 .1 .1 .1 .1 .0 .1 .0 .1;
-      eds = c .before .before .distances .ensures ∙ ap (λ (q : ℕ). distancesTo (take (c .before .before .before .before .before .before .before .before .cut .result) (c .before .before .before .before .padded .result)) (held q (c .before .before .before .before .before .cut2 .result) (s .micros))) d;
-      hk = c .neighbours .ensures .1;
-      li = sym (length-map (c .neighbours .result .ids) _) ∙ c .neighbours .ok .1 .1 .0 .1 .0 .1;
-      eids = c .neighbours .ensures .0;
+      coordinates = d;
+      point = λ ex. whole-point (e .args .x .now) (c .before .before .padded .result) (c .before .before .before .before .cut .result) ex (omega (arith, d)) (c .before .before .padded .ensures);
+      held-is = c .before .before .before .cut2 .ensures;
+      places = sym (length-map (s .micros) _) ∙ e .good .0 .1 .1 .1 .1 .1 .1 .1 .1 .1 .1 .1 .0 .1 .0 .1;
+      ids-places = sym (length-map (c .scan-for .result .ids) _) ∙ c .scan-for .ok .1 .1 .1 .1 .0 .1 .0 .1;
+      scanned = c .scan-for .ensures;
     }
 
-returns-3 : tie.Need-returns-3
-returns-3 c =
-    let e = c .before .before .before .before .before .before .before .before .before .before .before .before .before in
-    let s = e .args .t1 in
-    let x = e .args .x .now in
-    let f = scanned (c .before .before .before) in (
-      ap insertedTold (c .refused3 .ensures)
-          ∙ refuse-place (view s) x (eq-eqb (length x) (dimOf s) (f .ex)) (not-false _ (c .before .before .before .before .before .before .before .before .before .if2 .left)) (none f (c .before .before .if3 .taken)) (le-ltb (length (view s .micros)) 64 (omega (arith, count-is f, c .before .if4 .taken))),
-      λ q. ap (λ (r : Inserted). r .stream) (c .refused3 .ensures),
-    )
+returns : tie.Need-returns
+returns c = (refused (met (c .before .before .before)) (c .before .before .asked .result) (c .before .before .asked .ensures) (sym (c .before .«is-done» .ensures) ∙ not-true _ (c .if1 .taken)), λ q. refl)
 
 newborn-requires : tie.Need-newborn-requires
 newborn-requires c κs = search needs
@@ -95,7 +52,7 @@ mul-m : tie.Need-mul-m
 mul-m c = search needs
 
 element-set-from-m : tie.Need-element-set-from-m
-element-set-from-m c = search needs
+element-set-from-m c = free (met (c .before .before .before .before .before)) (c .before .before .before .before .asked .result) (c .before .before .before .before .asked .ensures) (sym (c .before .before .before .«is-done» .ensures) ∙ not-false _ (c .before .before .if1 .left)) (c .before .if2 .taken)
 
 add-self : tie.Need-add-self
 add-self c = search needs
@@ -112,48 +69,35 @@ gain-all-requires c κs = search needs
 tick-requires : tie.Need-tick-requires
 tick-requires c κs = search needs
 
-returns-4 : tie.Need-returns-4
-returns-4 c =
-    let f = scanned (c .before .before) in
-    let clock = not-false _ (c .before .before .before .before .before .before .before .before .if2 .left) in
-    let near = c .before .before .before .least .ensures in
-    let n = c .before .before .before .before .before .before .before .cut2 .result in
-    let ticked = c .tick .ensures in
+returns-2 : tie.Need-returns-2
+returns-2 c =
+    let f = met (c .before .before .before .before .before) in
+    let a = c .before .before .before .before .asked .result in
+    let e = c .before .before .before .before .asked .ensures in
+    let done = sym (c .before .before .before .«is-done» .ensures) ∙ not-false _ (c .before .before .if1 .left) in
+    let ex = exact f a e done in
+    let made = c .before .if2 .self in
+    let whole = accepted f a e (cleared made) _ done in
     ⊎-elim
     (λ w.
-    let h : n < 64 = omega (arith, f .en, w .1 .left) in (
-      accepted f (cleared (c .before .if3 .self)) _ _ clock (room-free f h) (ap cleared (w .4) ∙ born-is f (w .2 .result) (w .3 .result) (w .0 .taken) h (w .2 .ensures) (w .3 .ensures)) near ticked,
-      λ q. absurd (q refl),
-    ))
+    let open-place = free f a e done (w .0 .taken) in
+    (whole (ap cleared (w .3) ∙ born-is f ex (w .1 .result) (w .2 .result) (w .0 .taken) open-place (w .1 .ensures) (w .2 .ensures)) (c .tick .ensures), λ q. absurd (q (no-refusal a done))))
     (⊎-elim
-    (λ w.
-    let h = not-none _ (w .0 .left) in (
-      accepted f (cleared (c .before .if3 .self)) _ _ clock (room-some f h) (ap cleared (w .7) ∙ joined-is f (w .1 .result) _ h (w .1 .ensures) (w .5 .ensures)) near ticked,
-      λ q. absurd (q refl),
-    ))
-    (λ w.
-    let h = not-none _ (w .0 .left) in (
-      accepted f (cleared (c .before .if3 .self)) _ _ clock (room-some f h) (ap cleared (w .3) ∙ joined-is f (w .1 .result) _ h (w .1 .ensures) (links-stay f (omega (arith, w .2 .left)))) near ticked,
-      λ q. absurd (q refl),
-    )))
-    (c .before .if3 .came)
+    (λ w. (whole (ap cleared (w .8) ∙ joined-is f ex (w .2 .result) _ (w .0 .left) (w .2 .ensures) (w .6 .ensures)) (c .tick .ensures), λ q. absurd (q (no-refusal a done))))
+    (λ w. (whole (ap cleared (w .4) ∙ joined-is f ex (w .2 .result) _ (w .0 .left) (w .2 .ensures) (links-stay f ex (omega (arith, w .3 .left)))) (c .tick .ensures), λ q. absurd (q (no-refusal a done)))))
+    (c .before .if2 .came)
 
 pub try-insert-spec : {M : Type 1} → statement M
 try-insert-spec =
     tie.close
     (tie.spec
     cut-requires
-    refused-requires
-    returns
-    refused-requires-2
-    returns-2
     cut-requires-2
     padded-requires
-    distances-requires
-    least-requires
-    neighbours-requires
-    refused-requires-3
-    returns-3
+    scan-for-requires
+    asked-requires
+    is-done-requires
+    returns
     newborn-requires
     mul-m
     element-set-from-m
@@ -162,4 +106,4 @@ try-insert-spec =
     absorb-requires
     gain-all-requires
     tick-requires
-    returns-4)
+    returns-2)

@@ -29,20 +29,20 @@ prune-outliers-requires c κs = search needs
 returns : tie.Need-returns
 unfolding view
 returns c =
-    let e = c .before .before .before .before .before .before .before .before .before .before .before .before .before .before in
+    let e = c .before .before .before .before .before .before .before .before .before .before .before .before .before in
     let s = e .args .self in
     let a = c .before .before .before .prune-potential in
     let b = c .before .before .prune-outliers in
     let lp : length (s .potential) ≡ 64 = sym (length-map (s .potential) _) ∙ e .good .0 .1 .1 .1 .1 .0 .1 .0 .1 in
     let lo : length (s .outliers) ≡ 64 = sym (length-map (s .outliers) _) ∙ e .good .0 .1 .1 .1 .1 .1 .1 .0 .1 .0 .1 in
-    pruned-tick (s .params) (s .t) (s .potential) (s .«potential_count») (s .outliers) (s .«outlier_count») (take (s .«label_count») (s .labels)) (monitor.view (s .drift)) (e .args .near) (monitor.view (c .before .before .before .before .before .before .before .before .before .before .before .before .observe .result)) (c .before .before .before .before .before .before .before .before .before .before .before .before .observe .ensures .0) lp lo _ (c .before .before .before .before .before .before .before .potential-held .ensures) _ (c .before .before .before .before .before .before .outliers-held .ensures) (sym (c .before .before .before .before .before .before .before .before .before .is-multiple .ensures) ∙ c .before .before .before .before .before .before .before .before .if1 .taken) (a .result) (b .result) (a .ensures .0) (a .ensures .1) (b .ensures .0) (b .ensures .1)
+    pruned-tick (s .params) (s .t) (s .potential) (s .«potential_count») (s .outliers) (s .«outlier_count») (take (s .«label_count») (s .labels)) (monitor.view (s .drift)) (e .args .near) (monitor.view (c .before .before .before .before .before .before .before .before .before .before .before .observe .result)) (c .before .before .before .before .before .before .before .before .before .before .before .observe .ensures .0) lp lo _ (c .before .before .before .before .before .before .before .potential-held .ensures) _ (c .before .before .before .before .before .before .outliers-held .ensures) (sym (c .before .before .before .before .before .before .before .before .before .is-multiple .ensures) ∙ c .before .before .before .before .before .before .before .before .if1 .taken) (a .result) (b .result) (a .ensures .0) (a .ensures .1) (b .ensures .0) (b .ensures .1)
 
 returns-2 : tie.Need-returns-2
 unfolding view
 returns-2 c =
-    let e = c .before .before .before .before .before .before in
+    let e = c .before .before .before .before .before in
     let s = e .args .self in
-    plain-tick (s .params) (s .t) (s .potential) (s .«potential_count») (s .outliers) (s .«outlier_count») (take (s .«label_count») (s .labels)) (monitor.view (s .drift)) (e .args .near) (monitor.view (c .before .before .before .before .observe .result)) (c .before .before .before .before .observe .ensures .0) (sym (c .before .is-multiple .ensures) ∙ c .if1 .left)
+    plain-tick (s .params) (s .t) (s .potential) (s .«potential_count») (s .outliers) (s .«outlier_count») (take (s .«label_count») (s .labels)) (monitor.view (s .drift)) (e .args .near) (monitor.view (c .before .before .before .observe .result)) (c .before .before .before .observe .ensures .0) (sym (c .before .is-multiple .ensures) ∙ c .if1 .left)
 
 pub tick-spec : {M : Type 1} → statement M
 tick-spec =
