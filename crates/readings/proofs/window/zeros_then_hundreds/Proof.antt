@@ -1,7 +1,7 @@
 use Prim.Native.Nat.{_≤_, _-_}
 use borrow.Author.Needs.{needs}
-use Rattle.readings.proofs.drift.zeros_then_hundreds.Statement.{statement}
-use Rattle.readings.proofs.drift.zeros_then_hundreds.Tie as tie
+use Rattle.readings.proofs.window.zeros_then_hundreds.Statement.{statement}
+use Rattle.readings.proofs.window.zeros_then_hundreds.Tie as tie
 
 abbrev Inv-loop : tie.InvT-loop
 Inv-loop window₀ n₀ t6 t7 window n = n ≤ 64

@@ -1,0 +1,24 @@
+// "lambda 0.25, beta 0.5, mu 4, eps 1, points 0, 0, 0: one potential, label −1."
+use denstream::DenStream;
+
+const STDOUT: i32 = 1;
+
+fn with_zero(s: DenStream) -> DenStream {
+    let r = s.try_insert(&[0.0]);
+    r.stream
+}
+
+// Prints how many potential ones there are, and whether the first has the label -1.
+pub fn three_zeros() {
+    let opened = DenStream::new(1, 1.0, 0.25, 0.5, 4.0);
+    let s = opened.stream;
+    let clustered = with_zero(with_zero(with_zero(s))).cluster();
+    let mut labels = [0i64; 64];
+    clustered.labels(&mut labels);
+    io::print_decimal(STDOUT, clustered.potential_count() as u64);
+    if labels[0] == -1 {
+        io::write_all(STDOUT, b" potential, label -1\n");
+    } else {
+        io::write_all(STDOUT, b" potential, another label\n");
+    }
+}
