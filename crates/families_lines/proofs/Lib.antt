@@ -1,0 +1,5 @@
+pub mod Putting
+pub mod Decimals
+pub mod Magnitudes
+pub mod Printing
+pub mod Outputs

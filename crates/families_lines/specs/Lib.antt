@@ -1,0 +1,4 @@
+pub mod Ascii
+pub mod Put
+pub mod Text
+pub mod Lent

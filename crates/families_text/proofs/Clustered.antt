@@ -1,0 +1,80 @@
+-- What a clustered stream's read-outs give is its text. Assumes nothing.
+use Prim.Native.Nat.{ℕ, _≤_, min}
+use mathlib.Core.Path.{_≡_, refl, sym, ap, ap₂, _∙_, subst}
+use mathlib.Core.Bool.{Bool, cond}
+use mathlib.Core.List.{List, _++_, map}
+use native.Mathlib.Omega.{arith}
+use borrow.Author.Tests.{le-leb}
+use lib.IntN.{ℤ}
+use lib.ListN.{length, take, length-take}
+use lib.Seq.{take-append-seam}
+use Rattle.lists.specs.Maps.{map-length}
+use Rattle.lists.specs.Rest.{cut-take}
+use Rattle.micro.specs.Held.{cutTo}
+use Rattle.micro.specs.Views.{map-map}
+use Rattle.dbstream.specs.declared.DbStream.{DbStream}
+use Rattle.dbstream.specs.Stream.{view, dimOf}
+use Rattle.labels.specs.LabelLaws.{labels-tell}
+use Rattle.drift.specs.declared.DriftReport.{DriftReport}
+use Rattle.drift.specs.Monitor.{reportOf}
+use Rattle.model.specs.declared.answers.Reading.{Reading}
+use Rattle.model.specs.declared.answers.Reading.the-variants.{Written, TooShort}
+use Rattle.model.specs.declared.micro.MicroId.{MicroId}
+use Rattle.model.specs.Families.{labelsBy}
+use Rattle.model.specs.ReadOut.{LabelsRead, labelsRead, written}
+use Rattle.model.specs.DbState.{State}
+use Rattle.model.specs.DbInsert.{idOf}
+use Rattle.model.specs.DbCluster.{isStrong, strongOnes, joinsOf, labelsOf, clusterOf, labelsReadOf}
+use Rattle.readout.specs.Told.{labelsTold}
+use Rattle.families_lines.specs.Text.{linesOf, lastLine}
+use Rattle.families_text.specs.Families.{clusterText}
+
+pub few-ids : (s : State) (n : ℕ) (ids : List MicroId) → length ids ≡ 64 → n ≡ length (s .micros) → take (length (s .micros)) ids ≡ map idOf (s .micros) → n ≤ 64
+few-ids s n ids l c e = omega (arith, ap length e, map-length idOf (s .micros), length-take (length (s .micros)) ids)
+
+-- the creation numbers of an array's micro-clusters are the view's
+pub ids-are :
+    (s : DbStream) (n : ℕ) (ids : List MicroId) → n ≡ length (view s .micros) → length (s .micros) ≡ 64 → take n ids ≡ map idOf (take n (s .micros)) →
+    take (length (view s .micros)) ids ≡ map idOf (view s .micros)
+ids-are s n ids c l e =
+    let k : n ≡ min (s .count) 64 = c ∙ map-length (cutTo (dimOf s)) (take (s .count) (s .micros)) ∙ length-take (s .count) (s .micros) ∙ ap (min (s .count)) l in
+    ap (λ (i : ℕ). take i ids) (sym c)
+    ∙ e
+    ∙ ap (map idOf) (cut-take n (s .count) 64 (s .micros) k l)
+    ∙ sym (map-map idOf (cutTo (dimOf s)) (take (s .count) (s .micros)))
+
+-- one label for each
+label-count : (s : State) → length (s .micros) ≤ 64 → length (labelsOf s) ≡ length (s .micros)
+unfolding labelsOf labelsBy
+label-count s h =
+    let e : length (strongOnes s) ≡ length (s .micros) = map-length (isStrong s) (s .micros) in
+    let k : length (strongOnes s) ≤ 64 = omega arith in
+    labels-tell (length (strongOnes s)) k (joinsOf s (s .links)) (strongOnes s) (refl) .count ∙ e
+
+labels-read : (due lent labels : List ℤ) (answer : Reading) → length due ≤ length lent → labelsTold answer labels ≡ labelsRead due lent → take (length due) labels ≡ due
+labels-read due lent labels answer h e =
+    let w : LabelsRead = record { answer = Written; labels = written due lent } in
+    ap (λ (r : LabelsRead). take (length due) (r .labels)) (e ∙ ap (λ (b : Bool). cond b w (record { answer = TooShort; labels = lent })) (le-leb (length due) (length lent) h))
+    ∙ take-append-seam due _
+
+-- what is read out of a stream
+pub record Reads (s : State) (n : ℕ) (ids : List MicroId) (answer : Reading) (labels lent : List ℤ) (report : DriftReport) : Type 0 where
+  pub count : n ≡ length (s .micros)
+  pub names : take (length (s .micros)) ids ≡ map idOf (s .micros)
+  pub told : labelsTold answer labels ≡ labelsReadOf s lent
+  pub drift : report ≡ reportOf (s .drift)
+
+pub text-is :
+    (s u : State) (n : ℕ) (ids : List MicroId) (answer : Reading) (labels lent : List ℤ) (report : DriftReport) → length ids ≡ 64 → length lent ≡ 64 → u ≡ clusterOf s →
+    Reads u n ids answer labels lent report → linesOf (take n ids) (take n labels) ++ lastLine report ≡ clusterText s
+text-is s u n ids answer labels lent report l k e r = go (subst (λ (v : State). Reads v n ids answer labels lent report) e r)
+  where
+    go : Reads (clusterOf s) n ids answer labels lent report → linesOf (take n ids) (take n labels) ++ lastLine report ≡ clusterText s
+    go q =
+        let f : n ≤ 64 = few-ids (clusterOf s) n ids l (q .count) (q .names) in
+        let c : length (labelsOf s) ≡ length (s .micros) = label-count s (omega (arith, q .count)) in
+        let a : take n ids ≡ map idOf (s .micros) = ap (λ (i : ℕ). take i ids) (q .count) ∙ q .names in
+        let b : take n labels ≡ labelsOf s =
+        ap (λ (i : ℕ). take i labels) (q .count ∙ sym c) ∙ labels-read (labelsOf s) lent labels answer (omega (arith, q .count)) (q .told)
+        in
+        ap₂ _++_ (ap₂ linesOf a b) (ap lastLine (q .drift))

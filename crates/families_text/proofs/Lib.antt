@@ -1,0 +1,4 @@
+pub mod Inputs
+pub mod Runs
+pub mod Clustered
+pub mod Texts
