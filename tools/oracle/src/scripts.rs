@@ -145,7 +145,7 @@ struct Author {
     line: Line,
     /// The place of the session's opening.
     opened: usize,
-    /// Bytes that operation 13 may still print in this session: it prints much.
+    /// Bytes that operation 13 may still print in the session: it prints much.
     printable: usize,
 }
 
@@ -369,7 +369,7 @@ impl Author {
         self.say_doubles(PREDICT, &x);
     }
 
-    /// Operation 13, unless it has printed enough in this session.
+    /// Operation 13, unless it has printed enough in the session.
     fn figures(&mut self) {
         let most = match self.machine.stream() {
             Some(Stream::Db(s)) => s.micro_count() * (s.dim() + 4) * 17 + s.link_count() * 40 + 3000,
