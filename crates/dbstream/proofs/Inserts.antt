@@ -16,10 +16,8 @@ use Rattle.lists.specs.Retain.{retain}
 use Rattle.lists.specs.Rest.{cut-take}
 use Rattle.lists.specs.Maps.{map-length}
 use Rattle.feature.specs.Feature.{maxDim}
-use Rattle.drift.specs.Monitor as drift
 use Rattle.model.specs.declared.micro.MicroId.{MicroId}
 use Rattle.model.specs.declared.micro.DbMicro.{DbMicro}
-use Rattle.model.specs.declared.link.Link.{Link}
 use Rattle.model.specs.declared.answers.Insertion.{Insertion}
 use Rattle.model.specs.declared.answers.Insertion.the-variants.{Done, Shape, ClockAtLimit, NoPlace}
 use Rattle.model.specs.Any.{any}
@@ -35,7 +33,8 @@ use Rattle.micro.specs.Near.{absorbNear}
 use Rattle.micro.specs.Scanned.{Scanned}
 use Rattle.micro.specs.Views.{absorb-view, newborn-view, appended}
 use Rattle.dbstream.specs.declared.DbStream.{DbStream}
-use Rattle.dbstream.specs.Stream.{view, dimOf, settingsOf}
+use Rattle.dbstream.specs.Stream.{view, dimOf}
+use Rattle.dbstream.specs.Placed.{changed, bornBy, absorbedBy, gainedBy, placedBy}
 
 -- ---- the questions
 abbrev pub room : (absorbing held : ℕ) → Bool
@@ -136,20 +135,6 @@ pub whole-point : (x p : List Float) (d : ℕ) → length x ≡ d → d ≤ maxD
 whole-point x p d e h q = ap (λ (n : ℕ). take n p) (sym e) ∙ q ∙ take-all maxDim x (omega arith)
 
 -- ---- the stream after the micro-clusters and links, before the tick
-abbrev pub cleared : DbStream → State
-cleared s =
-    record {
-      settings = settingsOf s;
-      tGap = s .«t_gap»;
-      floor = s .floor;
-      t = s .t;
-      next = s .«next_id»;
-      micros = view s .micros;
-      links = view s .links;
-      labels = [];
-      drift = view s .drift;
-    }
-
 -- what is known once the micro-clusters are scanned for x, of which y is the first d places: n are held
 pub record Met (s : DbStream) (x y : List Float) (d n : ℕ) (f : Scan) : Type 0 where
   pub coordinates : d ≡ dimOf s
@@ -192,57 +177,40 @@ module _ {s : DbStream} {x y : List Float} {d n : ℕ} {f : Scan} (m : Met s x y
   nearest-is : f .nearest ≡ nearestFor (view s) x
   nearest-is = met .nearest ∙ ap (λ (l : List DbMicro). leastOf (distancesTo x (map (cutTo (dimOf s)) l))) kept
 
-  abbrev after : ℕ → List DbMicro → List Link → State
-  after next ms ls =
-      record {
-        settings = settingsOf s;
-        tGap = s .«t_gap»;
-        floor = s .floor;
-        t = s .t;
-        next = next;
-        micros = ms;
-        links = ls;
-        labels = [];
-        drift = drift.view (s .drift);
-      }
+  micros-born : n < microsMost → bornBy s y ≡ view s .micros ++ newborn (dimOf s) (record { 0 = s .«next_id» }) (s .t) x ∷ []
+  micros-born free =
+      ap (λ (q : ℕ). held (dimOf s) (q + 1) (set (s .micros) q (newborn maxDim (record { 0 = s .«next_id» }) (s .t) y))) (sym (m .held-is))
+      ∙ appended (dimOf s) n (s .micros) (newborn maxDim (record { 0 = s .«next_id» }) (s .t) y) (omega arith)
+      ∙ ap₂ (λ (l : List DbMicro) (v : DbMicro). map (cutTo (dimOf s)) l ++ v ∷ []) kept
+      (ap (λ (z : List Float). cutTo (dimOf s) (newborn maxDim (record { 0 = s .«next_id» }) (s .t) z)) (m .point ex) ∙ newborn-view (dimOf s) x (ex ∙ m .coordinates) (omega arith) (s .t) (record { 0 = s .«next_id» }))
 
-  pub born-is :
-      (b : DbMicro) (next : ℕ) → f .count ≡ 0 → n < microsMost → b ≡ newborn maxDim (record { 0 = s .«next_id» }) (s .t) y → next ≡ (s .«next_id» + 1) % 2 ^ 64 →
-      after next (held (dimOf s) (n + 1) (set (s .micros) n b)) (view s .links) ≡ placed (view s) x
-  born-is b next zero-k free eb enext =
-      ap₂ (λ (q : ℕ) (ms : List DbMicro). after q ms (view s .links)) enext micros-are
-      ∙ sym (ap (λ (c : Bool). cond c (joined (view s) x) (born (view s) x)) (none zero-k))
-    where
-      exact : length x ≡ dimOf s
-      exact = ex ∙ m .coordinates
-
-      micros-are : held (dimOf s) (n + 1) (set (s .micros) n b) ≡ view s .micros ++ newborn (dimOf s) (record { 0 = s .«next_id» }) (s .t) x ∷ []
-      micros-are =
-          appended (dimOf s) n (s .micros) b (omega arith)
-          ∙ ap₂ (λ (l : List DbMicro) (v : DbMicro). map (cutTo (dimOf s)) l ++ v ∷ []) kept
-          (ap (cutTo (dimOf s)) (eb ∙ ap (newborn maxDim (record { 0 = s .«next_id» }) (s .t)) (m .point ex)) ∙ newborn-view (dimOf s) x exact (omega arith) (s .t) (record { 0 = s .«next_id» }))
-
-  pub joined-is :
-      (grown : List DbMicro) (ls : List Link) → f .count ≢ 0 →
-      take n grown ≡ absorbNear (s .r ⊗ s .r) (absorbs (s .lambda) (s .t) y) (take n (f .distances)) (take n (s .micros)) →
-      ls ≡ foldl (gainOf (s .lambda) (s .t)) (view s .links) (pairsOf (take (f .count) (f .ids))) →
-      after (s .«next_id») (held (dimOf s) n grown) ls ≡ placed (view s) x
-  joined-is grown ls some-k egrown els =
-      ap₂ (after (s .«next_id»)) micros-are (els ∙ ap (λ (q : List MicroId). foldl (gainOf (s .lambda) (s .t)) (view s .links) (pairsOf q)) ids-are)
-      ∙ sym (ap (λ (c : Bool). cond c (joined (view s) x) (born (view s) x)) (some some-k))
-    where
-      micros-are : held (dimOf s) n grown ≡ map (absorbed (s .r) (s .lambda) (s .t) x) (view s .micros)
-      micros-are =
-          ap (map (cutTo (dimOf s)))
-          (egrown ∙ ap₂ (λ (z q : List Float). absorbNear (s .r ⊗ s .r) (absorbs (s .lambda) (s .t) z) q (take n (s .micros))) (m .point ex) (met .measured))
-          ∙ absorb-view (dimOf s) x (ex ∙ m .coordinates) (s .r) (s .lambda) (s .t) (take n (s .micros))
-          ∙ ap (λ (l : List DbMicro). map (absorbed (s .r) (s .lambda) (s .t) x) (map (cutTo (dimOf s)) l)) kept
+  micros-absorbed : absorbedBy s f y ≡ map (absorbed (s .r) (s .lambda) (s .t) x) (view s .micros)
+  micros-absorbed =
+      ap (λ (q : ℕ). map (cutTo (dimOf s)) (absorbNear (s .r ⊗ s .r) (absorbs (s .lambda) (s .t) y) (take q (f .distances)) (take q (s .micros)))) (sym (m .held-is))
+      ∙ ap₂ (λ (z q : List Float). map (cutTo (dimOf s)) (absorbNear (s .r ⊗ s .r) (absorbs (s .lambda) (s .t) z) q (take n (s .micros)))) (m .point ex) (met .measured)
+      ∙ absorb-view (dimOf s) x (ex ∙ m .coordinates) (s .r) (s .lambda) (s .t) (take n (s .micros))
+      ∙ ap (λ (l : List DbMicro). map (absorbed (s .r) (s .lambda) (s .t) x) (map (cutTo (dimOf s)) l)) kept
 
   -- no pair, no gain
-  pub links-stay : f .count ≤ 1 → view s .links ≡ foldl (gainOf (s .lambda) (s .t)) (view s .links) (pairsOf (take (f .count) (f .ids)))
+  links-stay : f .count ≡ 0 → gainedBy s f ≡ view s .links
   links-stay h =
       let few : length (take (f .count) (f .ids)) ≤ 1 = omega (arith, length-take (f .count) (f .ids)) in
-      ap (foldl (gainOf (s .lambda) (s .t)) (view s .links)) (sym (no-pair (take (f .count) (f .ids)) few))
+      ap (foldl (gainOf (s .lambda) (s .t)) (view s .links)) (no-pair (take (f .count) (f .ids)) few)
+
+  pub placed-is : (f .count ≡ 0 → n < microsMost) → placedBy s f y ≡ placed (view s) x
+  placed-is free =
+      by-cases (ℕ-discrete (f .count) 0)
+      (λ h. choose (eq-eqb (f .count) 0 h)
+      ∙ ap₂ (changed s ((s .«next_id» + 1) % 2 ^ 64)) (micros-born (free h)) (links-stay h)
+      ∙ sym (ap (λ (c : Bool). cond c (joined (view s) x) (born (view s) x)) (none h)))
+      (λ h. choose (ne-eqb (f .count) 0 h)
+      ∙ ap₂ (changed s (s .«next_id»)) micros-absorbed (ap (λ (q : List MicroId). foldl (gainOf (s .lambda) (s .t)) (view s .links) (pairsOf q)) ids-are)
+      ∙ sym (ap (λ (c : Bool). cond c (joined (view s) x) (born (view s) x)) (some h)))
+    where
+      choose :
+          {b : Bool} → eqb (f .count) 0 ≡ b →
+          placedBy s f y ≡ cond b (changed s ((s .«next_id» + 1) % 2 ^ 64) (bornBy s y) (gainedBy s f)) (changed s (s .«next_id») (absorbedBy s f y) (gainedBy s f))
+      choose e = ap (λ (c : Bool). cond c (changed s ((s .«next_id» + 1) % 2 ^ 64) (bornBy s y) (gainedBy s f)) (changed s (s .«next_id») (absorbedBy s f y) (gainedBy s f))) e
 
 -- ---- the whole insert
 module _ {s : DbStream} {x y : List Float} {d n : ℕ} {f : Scan} (m : Met s x y d n f) (a : Insertion) (e : a ≡ insertionAsked d (length x) (s .t) (room (f .count) n)) where
@@ -256,7 +224,7 @@ module _ {s : DbStream} {x y : List Float} {d n : ℕ} {f : Scan} (m : Met s x y
       ap (λ (b : Bool). cond b (cond (lt (s .t) clockLimit) (cond (room (f .count) n) Done NoPlace) ClockAtLimit) (Shape (dimOf s) (length x))) g
       ∙ sym (ap (λ (b : Bool). cond b (cond (lt (s .t) clockLimit) (cond (hasPlace (view s) x) Done NoPlace) ClockAtLimit) (Shape (dimOf s) (length x))) g))
 
-  pub exact : eqb (insertionNumber a) 0 ≡ true → length x ≡ d
+  exact : eqb (insertionNumber a) 0 ≡ true → length x ≡ d
   exact h = has-length a d (length x) (s .t) (f .count) n e h
 
   pub free : eqb (insertionNumber a) 0 ≡ true → f .count ≡ 0 → n < microsMost
@@ -266,10 +234,8 @@ module _ {s : DbStream} {x y : List Float} {d n : ℕ} {f : Scan} (m : Met s x y
   unfolding insertOf
   refused h = outcome-refused a (view s) (takenOf (view s) x) h ∙ ap (λ (q : Insertion). outcome q (view s) (takenOf (view s) x)) answer-is
 
-  pub accepted :
-      (u v : State) → eqb (insertionNumber a) 0 ≡ true → u ≡ placed (view s) x → v ≡ tickOf u (f .nearest) →
-      record { answer = a; stream = v } ≡ insertOf (view s) x
+  pub accepted : (v : State) → eqb (insertionNumber a) 0 ≡ true → v ≡ tickOf (placedBy s f y) (f .nearest) → record { answer = a; stream = v } ≡ insertOf (view s) x
   unfolding insertOf
-  accepted u v h eu ev =
-      ap (λ (w : State). record { answer = a; stream = w }) (ev ∙ ap₂ tickOf eu (nearest-is m (exact h)))
+  accepted v h ev =
+      ap (λ (w : State). record { answer = a; stream = w }) (ev ∙ ap₂ tickOf (placed-is m (exact h) (free h)) (nearest-is m (exact h)))
       ∙ outcome-done a (view s) (takenOf (view s) x) h ∙ ap (λ (q : Insertion). outcome q (view s) (takenOf (view s) x)) answer-is

@@ -1,4 +1,5 @@
 pub mod Openings
+pub mod Taken
 pub mod Ticks
 pub mod Inserts
 pub mod Labels

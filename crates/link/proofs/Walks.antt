@@ -9,8 +9,7 @@ use Rattle.model.specs.declared.micro.MicroId.{MicroId}
 use Rattle.model.specs.declared.link.Link.{Link}
 use Rattle.model.specs.DbInsert.{before}
 use Rattle.link.specs.declared.walk.Walk.{Walk}
-use Rattle.link.specs.Order.{keyOf}
-use Rattle.link.specs.Walk.{idAt, walkTo, nextOf}
+use Rattle.link.specs.Walk.{keyOf, idAt, walkTo, nextOf}
 
 module _ (ids : List MicroId) (t : Float) (w : Walk) where
   pub walked :

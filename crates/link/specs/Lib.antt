@@ -1,6 +1,7 @@
-pub mod Order
 pub mod Walk
 pub mod Passed
 pub mod Walking
 pub mod Factor
+pub mod Pass
+pub mod Passing
 pub mod Among

@@ -10,8 +10,6 @@ use lib.Dec.{eqb, ltb}
 use lib.Ieee.{Float}
 use Rattle.model.specs.declared.link.Link.{Link}
 use Rattle.model.specs.DbInsert.{gains, before, sameEnds, gainIn}
-use Rattle.link.specs.declared.order.Order.the-variants.{Before, Same, After}
-use Rattle.link.specs.Order.{orderOf, meets}
 
 -- every link of the list stands before k
 abbrev pub Passed : Link → List Link → Type 0
@@ -68,43 +66,23 @@ pub passed-one : (k : Link) (ls : List Link) (l : Link) → Passed k ls → befo
 passed-one k [] l h e = (e, tt)
 passed-one k (m ∷ ls) l h e = (h .0, passed-one k ls l (h .1) e)
 
--- ---- what the first link that is not passed tells
-pub clash : {A : Type 0} → _≡_ {A = ℕ} 0 1 → A
-clash z = absurd (omega arith)
+-- k has no link in a list whose first, if there is one, stands after it
+abbrev pub Absent : Link → List Link → Type 0
+Absent k [] = Unit
+Absent k (l ∷ ls) = (before l k ≡ false) × (sameEnds l k ≡ false)
 
-pub met-before : (l k : Link) → orderOf l k ≡ Before → before l k ≡ true
-met-before l k = go (before l k) (sameEnds l k)
-  where
-    go : (x y : Bool) → cond x Before (cond y Same After) ≡ Before → x ≡ true
-    go true y e = refl
-    go false true e = clash cc
-    go false false e = clash cc
-
+-- ---- what a gain makes of the rest
 module _ (lambda t : Float) (room : Bool) (k : Link) where
   pub gain-passed : (ls rest : List Link) → Passed k ls → gainIn lambda t room k (ls ++ rest) ≡ ls ++ gainIn lambda t room k rest
   unfolding gainIn
   gain-passed [] rest h = refl
   gain-passed (l ∷ ls) rest h = rw (h .0) (ap (λ (r : List Link). l ∷ r) (gain-passed ls rest (h .1)))
 
-  pub gain-same : (l : Link) (rest : List Link) → orderOf l k ≡ Same → gainIn lambda t room k (l ∷ rest) ≡ gains lambda t l ∷ rest
+  pub gain-same : (l : Link) (rest : List Link) → before l k ≡ false → sameEnds l k ≡ true → gainIn lambda t room k (l ∷ rest) ≡ gains lambda t l ∷ rest
   unfolding gainIn
-  gain-same l rest = go (before l k) (sameEnds l k)
-    where
-      go :
-          (x y : Bool) → cond x Before (cond y Same After) ≡ Same →
-          cond x (l ∷ gainIn lambda t room k rest) (cond y (gains lambda t l ∷ rest) (cond room (gains lambda t k ∷ l ∷ rest) (l ∷ rest))) ≡ gains lambda t l ∷ rest
-      go true y e = clash cc
-      go false true e = refl
-      go false false e = clash cc
+  gain-same l rest e f = rw (e, f)
 
-  pub gain-after : (rest : List Link) → meets k rest ≡ After → gainIn lambda t room k rest ≡ cond room (gains lambda t k ∷ rest) rest
-  unfolding gainIn meets
-  gain-after [] e = refl
-  gain-after (l ∷ rest) e = go (before l k) (sameEnds l k) e
-    where
-      go :
-          (x y : Bool) → cond x Before (cond y Same After) ≡ After →
-          cond x (l ∷ gainIn lambda t room k rest) (cond y (gains lambda t l ∷ rest) (cond room (gains lambda t k ∷ l ∷ rest) (l ∷ rest))) ≡ cond room (gains lambda t k ∷ l ∷ rest) (l ∷ rest)
-      go true y e = clash cc
-      go false true e = clash cc
-      go false false e = refl
+  pub gain-after : (rest : List Link) → Absent k rest → gainIn lambda t room k rest ≡ cond room (gains lambda t k ∷ rest) rest
+  unfolding gainIn
+  gain-after [] h = refl
+  gain-after (l ∷ rest) h = rw (h .0, h .1)

@@ -7,10 +7,14 @@ use lib.Ieee.{Float}
 use lib.ListN.{getD}
 use Rattle.lists.specs.Rest.{rest}
 use Rattle.model.specs.declared.micro.MicroId.{MicroId}
+use Rattle.model.specs.declared.link.Link.{Link}
 use Rattle.model.specs.Limits.{microsMost}
-use Rattle.model.specs.DbInsert.{before, pairOf, pairsOf}
+use Rattle.model.specs.DbInsert.{before, absent, pairOf, pairsOf}
 use Rattle.link.specs.declared.walk.Walk.{Walk}
-use Rattle.link.specs.Order.{keyOf}
+
+-- the link of two creation numbers before its first gain
+abbrev pub keyOf : (a b : MicroId) (t : Float) → Link
+keyOf a b t = absent (pairOf a b .0) (pairOf a b .1) t
 
 -- the creation number at a place of the array, the last one past its end
 abbrev pub idAt : List MicroId → ℕ → MicroId

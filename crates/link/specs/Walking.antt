@@ -4,10 +4,9 @@
 --     step-same               it has the key's ends and gains
 --     step-after, step-full   the key's link is inserted at p, or the list is full
 --     end                     no pair is left: every gain is made
---     less-before, less-next  each turn brings the end nearer
---     met-at, met-end         how the links at p stand to the key
---     inside-before, -same    p is a place of the list, where that is not After
-use Prim.Native.Nat.{ℕ, suc, _+_, _-_, _*_, _≤_, _<_, min}
+--     less-next               the next pair is one fewer
+--     absent-at, absent-end   the key has no link from p on
+use Prim.Native.Nat.{ℕ, suc, _+_, _≤_, _<_, min}
 use native.Mathlib.Numerals.{add-one}
 use native.Mathlib.Omega.{arith}
 use native.Mathlib.Decide.{decLt}
@@ -23,12 +22,10 @@ use Rattle.lists.specs.Rest.{rest, rest-step, rest-end, take-set, cut-take, cut
 use Rattle.model.specs.declared.micro.MicroId.{MicroId}
 use Rattle.model.specs.declared.link.Link.{Link}
 use Rattle.model.specs.Limits.{linksMost, microsMost}
-use Rattle.model.specs.DbInsert.{pairOf, pairsOf, before, gains, gainIn, hasRoom, gainOf}
-use Rattle.link.specs.declared.order.Order.the-variants.{Before, Same, After}
+use Rattle.model.specs.DbInsert.{pairOf, pairsOf, before, sameEnds, gains, gainIn, hasRoom, gainOf}
 use Rattle.link.specs.declared.walk.Walk.{Walk}
-use Rattle.link.specs.Order.{orderOf, meets, keyOf}
-use Rattle.link.specs.Walk.{idAt, pairsFrom, firstOf, walkTo, nextOf}
-use Rattle.link.specs.Passed.{Passed, passed-on, passed-one, met-before, gain-passed, gain-same, gain-after, clash}
+use Rattle.link.specs.Walk.{keyOf, idAt, pairsFrom, firstOf, walkTo, nextOf}
+use Rattle.link.specs.Passed.{Passed, Absent, passed-on, passed-one, gain-passed, gain-same, gain-after}
 
 -- ls is the array of links, of which n count; goal is the list that all gains make
 pub record Walking (lambda t : Float) (ids : List MicroId) (k : ℕ) (goal ls : List Link) (n : ℕ) (w : Walk) : Type 0 where
@@ -43,9 +40,8 @@ pub record Walking (lambda t : Float) (ids : List MicroId) (k : ℕ) (goal ls : 
   pub passed : Passed (w .key) (take (w .p) ls)
   pub left : foldl (gainOf lambda t) (take n ls) (pairsFrom k ids (w .i) (w .j)) ≡ goal
 
--- how far the end is
-abbrev pub toGo : (ids : List MicroId) (k : ℕ) → Walk → ℕ
-toGo ids k w = length (pairsFrom k ids (w .i) (w .j)) * suc linksMost + (linksMost - w .p)
+abbrev pub pairsLeft : (ids : List MicroId) (k : ℕ) → Walk → ℕ
+pairsLeft ids k w = length (pairsFrom k ids (w .i) (w .j))
 
 -- ---- the pairs
 module _ (ids : List MicroId) (k : ℕ) (among : k ≤ microsMost) (all : length ids ≡ microsMost) where
@@ -115,33 +111,20 @@ stored n p ls new h fits =
     ∙ ap (λ (q : List Link). q ++ new ∷ drop (suc p) (take n ls)) (take-take p n ls b)
     ∙ ap (λ (m : ℕ). take p ls ++ new ∷ drop m (take n ls)) (sym (add-one p))
 
--- the link met at p, and the end of the list
-pub met-at : (k : Link) (n p : ℕ) (ls : List Link) (z : Link) → p < n → n ≤ length ls → meets k (rest n p ls) ≡ orderOf (getD ls p z) k
-unfolding meets
-met-at k n p ls z h fits = rw (rest-step n p ls z h fits)
+-- the link at p stands after the key, or the list ends before p
+pub absent-at : (k : Link) (n p : ℕ) (ls : List Link) (z : Link) → p < n → n ≤ length ls → before (getD ls p z) k ≡ false → sameEnds (getD ls p z) k ≡ false → Absent k (rest n p ls)
+absent-at k n p ls z h fits e f = subst (Absent k) (sym (rest-step n p ls z h fits)) (e, f)
 
-pub met-end : (k : Link) (n p : ℕ) (ls : List Link) → n ≤ p → meets k (rest n p ls) ≡ After
-unfolding meets
-met-end k n p ls h = rw (rest-end n p ls h)
+pub absent-end : (k : Link) (n p : ℕ) (ls : List Link) → n ≤ p → Absent k (rest n p ls)
+absent-end k n p ls h = subst (Absent k) (sym (rest-end n p ls h)) tt
 
 module _ {lambda t : Float} {ids : List MicroId} {k : ℕ} {goal ls : List Link} {n : ℕ} {w : Walk} (s : Walking lambda t ids k goal ls n w) where
   fits-links : n ≤ length ls
   fits-links = omega (arith, s .size, s .count)
 
-  inside : (meets (w .key) (rest n (w .p) ls) ≡ After → ⊥) → w .p < n
-  inside other = by-cases (decLt (w .p) n) (λ h. h) (λ h. absurd (other (met-end (w .key) n (w .p) ls (omega arith))))
-
-  pub inside-before : meets (w .key) (rest n (w .p) ls) ≡ Before → w .p < n
-  inside-before e = inside (λ f. clash cc)
-
-  pub inside-same : meets (w .key) (rest n (w .p) ls) ≡ Same → w .p < n
-  inside-same e = inside (λ f. clash cc)
-
-  pub step-before : meets (w .key) (rest n (w .p) ls) ≡ Before → Walking lambda t ids k goal ls n (record { i = w .i; j = w .j; p = w .p + 1; key = w .key })
-  step-before e =
-      let h : w .p < n = inside-before e in
+  pub step-before : (z : Link) → w .p < n → before (getD ls (w .p) z) (w .key) ≡ true → Walking lambda t ids k goal ls n (record { i = w .i; j = w .j; p = w .p + 1; key = w .key })
+  step-before z h e =
       let g : w .p < length ls = omega (arith, fits-links, h) in
-      let l : Link = getD ls (w .p) (w .key) in
       record {
         size = s .size;
         count = s .count;
@@ -152,13 +135,10 @@ module _ {lambda t : Float} {ids : List MicroId} {k : ℕ} {goal ls : List Link}
         place = omega (arith, h);
         key = s .key;
         passed =
-            subst (Passed (w .key)) (sym (ap (λ (m : ℕ). take m ls) (add-one (w .p)) ∙ take-suc ls (w .p) (w .key) g))
-            (passed-one (w .key) (take (w .p) ls) l (s .passed) (met-before l (w .key) (sym (met-at (w .key) n (w .p) ls (w .key) h fits-links) ∙ e)));
+            subst (Passed (w .key)) (sym (ap (λ (m : ℕ). take m ls) (add-one (w .p)) ∙ take-suc ls (w .p) z g))
+            (passed-one (w .key) (take (w .p) ls) (getD ls (w .p) z) (s .passed) e);
         left = s .left;
       }
-
-  pub less-before : meets (w .key) (rest n (w .p) ls) ≡ Before → toGo ids k (record { i = w .i; j = w .j; p = w .p + 1; key = w .key }) < toGo ids k w
-  less-before e = omega (arith, inside-before e, s .count)
 
   -- what a gain leaves of the links passed
   gain-at : (room : Bool) → gainIn lambda t room (w .key) (take n ls) ≡ take (w .p) ls ++ gainIn lambda t room (w .key) (rest n (w .p) ls)
@@ -224,33 +204,30 @@ module _ {lambda t : Float} {ids : List MicroId} {k : ℕ} {goal ls : List Link}
         (advance-to ls′ n′ (w .i + 1) (w .i + 1 + 1) size count place same gain (omega arith) (inr refl) (next-row ids k (s .among) (s .all) (w .i) (w .j) low live g)))
 
     pub step-same :
-        (new z : Link) (v : Walk) → v ≡ nextOf ids k t w → meets (w .key) (rest n (w .p) ls) ≡ Same → new ≡ gains lambda t (getD ls (w .p) z) →
-        Walking lambda t ids k goal (set ls (w .p) new) n v
-    step-same new z v next e is =
-        let h : w .p < n = inside-same e in
+        (z : Link) (v : Walk) → v ≡ nextOf ids k t w → w .p < n → before (getD ls (w .p) z) (w .key) ≡ false → sameEnds (getD ls (w .p) z) (w .key) ≡ true →
+        Walking lambda t ids k goal (set ls (w .p) (gains lambda t (getD ls (w .p) z))) n v
+    step-same z v next h e f =
         let room : Bool = hasRoom (take n ls) in
+        let new : Link = gains lambda t (getD ls (w .p) z) in
         advance (set ls (w .p) new) n v next (length-set ls (w .p) new ∙ s .size) (s .count) (s .place) (take-set-le (w .p) ls (w .p) new (omega arith))
         (stored n (w .p) ls new h fits-links
         ∙ ap (λ (q : List Link). take (w .p) ls ++ q)
-        (ap (λ (l : Link). l ∷ rest n (w .p + 1) ls) is
-        ∙ sym (gain-same lambda t room (w .key) (getD ls (w .p) z) (rest n (w .p + 1) ls) (sym (met-at (w .key) n (w .p) ls z h fits-links) ∙ e))
-        ∙ ap (gainIn lambda t room (w .key)) (sym (rest-step n (w .p) ls z h fits-links)))
+        (sym (gain-same lambda t room (w .key) (getD ls (w .p) z) (rest n (w .p + 1) ls) e f) ∙ ap (gainIn lambda t room (w .key)) (sym (rest-step n (w .p) ls z h fits-links)))
         ∙ sym (gain-at room))
 
     pub step-after :
-        (new : Link) (ls′ : List Link) (v : Walk) → v ≡ nextOf ids k t w → meets (w .key) (rest n (w .p) ls) ≡ After → n < linksMost → new ≡ gains lambda t (w .key) → length ls′ ≡ linksMost →
-        take (n + 1) ls′ ≡ take (w .p) ls ++ new ∷ rest n (w .p) ls → Walking lambda t ids k goal ls′ (n + 1) v
-    step-after new ls′ v next e free is size put =
+        (ls′ : List Link) (v : Walk) → v ≡ nextOf ids k t w → Absent (w .key) (rest n (w .p) ls) → n < linksMost → length ls′ ≡ linksMost →
+        take (n + 1) ls′ ≡ take (w .p) ls ++ gains lambda t (w .key) ∷ rest n (w .p) ls → Walking lambda t ids k goal ls′ (n + 1) v
+    step-after ls′ v next e free size put =
         let a : w .p ≤ n + 1 = omega (arith, s .place) in
         let b : w .p ≤ length ls = omega (arith, s .place, fits-links) in
         let o : hasRoom (take n ls) ≡ true = lt-ltb (length (take n ls)) linksMost (omega (arith, length-take-le n ls fits-links)) in
         advance ls′ (n + 1) v next size (omega arith) a
-        (sym (take-take (w .p) (n + 1) ls′ a) ∙ ap (take (w .p)) put ∙ take-at (take (w .p) ls) (new ∷ rest n (w .p) ls) (w .p) (length-take-le (w .p) ls b))
-        (put ∙ ap (λ (l : Link). take (w .p) ls ++ l ∷ rest n (w .p) ls) is
-        ∙ ap (λ (q : List Link). take (w .p) ls ++ q) (sym (gain-after lambda t true (w .key) (rest n (w .p) ls) e))
+        (sym (take-take (w .p) (n + 1) ls′ a) ∙ ap (take (w .p)) put ∙ take-at (take (w .p) ls) (gains lambda t (w .key) ∷ rest n (w .p) ls) (w .p) (length-take-le (w .p) ls b))
+        (put ∙ ap (λ (q : List Link). take (w .p) ls ++ q) (sym (gain-after lambda t true (w .key) (rest n (w .p) ls) e))
         ∙ sym (gain-at true) ∙ ap (λ (r : Bool). gainIn lambda t r (w .key) (take n ls)) (sym o))
 
-    pub step-full : (v : Walk) → v ≡ nextOf ids k t w → meets (w .key) (rest n (w .p) ls) ≡ After → linksMost ≤ n → Walking lambda t ids k goal ls n v
+    pub step-full : (v : Walk) → v ≡ nextOf ids k t w → Absent (w .key) (rest n (w .p) ls) → linksMost ≤ n → Walking lambda t ids k goal ls n v
     step-full v next e full =
         let o : hasRoom (take n ls) ≡ false = le-ltb (length (take n ls)) linksMost (omega (arith, length-take-le n ls fits-links)) in
         advance ls n v next (s .size) (s .count) (s .place) refl
@@ -258,16 +235,16 @@ module _ {lambda t : Float} {ids : List MicroId} {k : ℕ} {goal ls : List Link}
         ∙ ap (λ (q : List Link). take (w .p) ls ++ q) (sym (gain-after lambda t false (w .key) (rest n (w .p) ls) e))
         ∙ sym (gain-at false) ∙ ap (λ (r : Bool). gainIn lambda t r (w .key) (take n ls)) (sym o))
 
-    pub less-next : (v : Walk) → v ≡ nextOf ids k t w → toGo ids k v < toGo ids k w
+    pub less-next : (v : Walk) → v ≡ nextOf ids k t w → pairsLeft ids k v < pairsLeft ids k w
     less-next v next =
         by-cases (decLt (w .j + 1) k)
-        (λ h. subst (λ (v : Walk). toGo ids k v < toGo ids k w) (sym (next ∙ next-here h))
+        (λ h. subst (λ (v : Walk). pairsLeft ids k v < pairsLeft ids k w) (sym (next ∙ next-here h))
         (fewer (w .i) (w .j + 1) (next-in-row ids k (s .among) (s .all) (w .i) (w .j) low live)))
         (λ h. let g : k ≤ w .j + 1 = omega arith in
-        subst (λ (v : Walk). toGo ids k v < toGo ids k w) (sym (next ∙ next-there g))
+        subst (λ (v : Walk). pairsLeft ids k v < pairsLeft ids k w) (sym (next ∙ next-there g))
         (fewer (w .i + 1) (w .i + 1 + 1) (next-row ids k (s .among) (s .all) (w .i) (w .j) low live g)))
       where
-        fewer : (i j : ℕ) → pairsFrom k ids (w .i) (w .j) ≡ pairOf (idAt ids (w .i)) (idAt ids (w .j)) ∷ pairsFrom k ids i j → toGo ids k (walkTo ids t w i j) < toGo ids k w
+        fewer : (i j : ℕ) → pairsFrom k ids (w .i) (w .j) ≡ pairOf (idAt ids (w .i)) (idAt ids (w .j)) ∷ pairsFrom k ids i j → pairsLeft ids k (walkTo ids t w i j) < pairsLeft ids k w
         fewer i j pairs =
             let e : length (pairsFrom k ids (w .i) (w .j)) ≡ suc (length (pairsFrom k ids i j)) = ap length pairs in
             omega (arith, e)

@@ -3,14 +3,7 @@ use model::Link;
 use model::MicroId;
 ghost use mathlib.Core.Path.{_≡_};
 ghost use Rattle.model.specs.DbInsert.{before, sameEnds};
-ghost use Rattle.link.specs.Order.{orderOf, keyOf};
-
-// How a link stands to another.
-pub enum Order {
-    Before,
-    Same,
-    After,
-}
+ghost use Rattle.link.specs.Walk.{keyOf};
 
 // Whether l stands before k.
 pub fn is_before(l: Link, k: Link) -> bool
@@ -38,19 +31,6 @@ pub fn same_ends(l: Link, k: Link) -> bool
     let c = k.lo;
     let d = k.hi;
     if a.0 == c.0 { b.0 == d.0 } else { false }
-}
-
-// How l stands to k.
-pub fn compared(l: Link, k: Link) -> Order
-    ensures { λ r. ⌜ r ≡ orderOf l k ⌝ }
-{
-    if is_before(l, k) {
-        return Order::Before;
-    }
-    if same_ends(l, k) {
-        return Order::Same;
-    }
-    Order::After
 }
 
 // The link of two creation numbers, the smaller first, before its first gain.

@@ -1,5 +1,4 @@
 // The links that a cleanup keeps.
-use crate::gain::Links;
 use model::LINKS;
 use model::Link;
 use model::MICROS;
@@ -8,6 +7,12 @@ ghost use mathlib.Core.Path.{_≡_};
 ghost use lib.ListN.{take};
 ghost use Rattle.lists.specs.Retain.{retain};
 ghost use Rattle.link.specs.Among.{isAmong, staysAmong};
+
+// The list of links: the first count of the array.
+pub struct Links {
+    pub links: [Link; LINKS],
+    pub count: usize,
+}
 
 // Whether id is one of the first n.
 pub fn is_among(ids: [MicroId; MICROS], n: usize, id: MicroId) -> bool
@@ -26,7 +31,7 @@ pub fn is_among(ids: [MicroId; MICROS], n: usize, id: MicroId) -> bool
 }
 
 // Whether both ends are held and the faded value is not below floor.
-pub fn stays(l: Link, ids: [MicroId; MICROS], n: usize, lambda: f64, floor: f64, t: f64) -> bool
+fn stays(l: Link, ids: [MicroId; MICROS], n: usize, lambda: f64, floor: f64, t: f64) -> bool
     ensures { λ r. ⌜ r ≡ staysAmong lambda floor t (take n ids) l ⌝ }
 {
     let lo = l.lo;

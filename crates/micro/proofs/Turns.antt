@@ -1,4 +1,4 @@
--- The definitions of the least distance, a filter, the absorption and the stored weight, as a counting loop goes through them.
+-- The definitions of the least distance, a filter and the stored weight, as a counting loop goes through them.
 use Prim.Native.Nat.{ℕ, _+_, _≤_, _<_, min}
 use native.Mathlib.Numerals.{add-one}
 use native.Mathlib.Omega.{arith}
@@ -7,12 +7,12 @@ use mathlib.Core.Logic.{_≢_}
 use mathlib.Core.List.{List, _++_, map, foldl, append-nil}
 use mathlib.Core.Bool.{Bool, true, false}
 use borrow.Author.Tests.{eq-eqb, ne-eqb}
-use lib.Ieee.{Float, nan, le}
+use lib.Ieee.{Float, nan}
 use lib.ListN.{length, take, getD, set}
-use lib.Seq.{take-suc, take-suc-set, append-snoc}
+use lib.Seq.{take-suc-set, append-snoc}
 use Rattle.float.specs.Rounded.{nought}
 use Rattle.float.specs.Order.{smaller}
-use Rattle.lists.specs.Rest.{rest, rest-start, rest-step, rest-end, rest-set, cut-take}
+use Rattle.lists.specs.Rest.{rest, rest-start, rest-step, rest-end, cut-take}
 use Rattle.drift.specs.declared.Nearest.the-variants.{Nothing, Distance}
 use Rattle.feature.specs.declared.spherical.Spherical.{Spherical}
 use Rattle.feature.specs.Feature.{maxDim}
@@ -22,7 +22,6 @@ use Rattle.model.specs.Fading.{absorbing, birth}
 use Rattle.model.specs.DbInsert.{leastOf, absorbs, newborn}
 use Rattle.model.specs.DbCluster.{storedWeight}
 use Rattle.lists.specs.Retain.{retain}
-use Rattle.micro.specs.Near.{absorbNear}
 
 -- ---- the least distance
 module _ (n k : ℕ) (ds : List Float) (e : k ≡ min n 64) (l : length ds ≡ 64) where
@@ -51,29 +50,6 @@ module _ {A B : Type 0} (f : A → B) (p : A → Bool) (n i : ℕ) (l : List A) 
 pub filter-end : {A B : Type 0} (f : A → B) (p : A → Bool) (n i : ℕ) (l : List A) (r : List B) → n ≤ i → r ++ map f (retain p (rest n i l)) ≡ r
 unfolding retain
 filter-end f p n i l r h = rw (rest-end n i l) (append-nil r)
-
--- ---- absorption in place
-module _ (r2 : Float) (f : DbMicro → DbMicro) (n i : ℕ) (ds : List Float) (ms : List DbMicro) (z : DbMicro) (h : i < n) (kd : n ≤ length ds) (km : n ≤ length ms) where
-  pub absorb-take :
-      (v : DbMicro) → v ≡ f (getD ms i z) → le (getD ds i nan) r2 ≡ true →
-      take (i + 1) (set ms i v) ++ absorbNear r2 f (rest n (i + 1) ds) (rest n (i + 1) (set ms i v)) ≡ take i ms ++ absorbNear r2 f (rest n i ds) (rest n i ms)
-  unfolding absorbNear
-  absorb-take v e t =
-      let q : i < length ms = omega arith in
-      let b : i < i + 1 = omega arith in
-      rw (rest-step n i ds nan, rest-step n i ms z, t, ← e, rest-set n (i + 1) ms i v, add-one, take-suc-set ms i v, append-snoc (take i ms) v)
-
-  pub absorb-skip :
-      le (getD ds i nan) r2 ≡ false →
-      take (i + 1) ms ++ absorbNear r2 f (rest n (i + 1) ds) (rest n (i + 1) ms) ≡ take i ms ++ absorbNear r2 f (rest n i ds) (rest n i ms)
-  unfolding absorbNear
-  absorb-skip t =
-      let q : i < length ms = omega arith in
-      rw (rest-step n i ds nan, rest-step n i ms z, t, add-one, take-suc ms i z, append-snoc (take i ms) (getD ms i z))
-
-pub absorb-end : (r2 : Float) (f : DbMicro → DbMicro) (n i : ℕ) (ds : List Float) (ms : List DbMicro) → n ≤ i → take i ms ++ absorbNear r2 f (rest n i ds) (rest n i ms) ≡ take i ms
-unfolding absorbNear
-absorb-end r2 f n i ds ms h = rw (rest-end n i ds, rest-end n i ms) (append-nil (take i ms))
 
 -- ---- a micro-cluster put together from its parts
 pub absorbs-is : (lambda t : Float) (x : List Float) (m : DbMicro) (cf : Spherical) → cf ≡ absorbing lambda t (m .last) x (m .cf) → record { cf = cf; last = t; id = m .id } ≡ absorbs lambda t x m

@@ -1,4 +1,5 @@
 pub mod Held
 pub mod Near
+pub mod Absorbing
 pub mod Scanned
 pub mod Views

@@ -6,7 +6,6 @@ mod identity;
 mod scan;
 mod weight;
 
-pub use absorption::absorb;
 pub use absorption::absorbed;
 pub use absorption::newborn;
 pub use cleanup::Micros;

@@ -4,8 +4,7 @@ use mathlib.Core.Path.{ap₂, _≡_, sym, _∙_}
 use mathlib.Core.Bool.{true, false}
 use borrow.Author.Needs.{needs}
 use lib.ListN.{getD}
-use Rattle.link.specs.Order.{keyOf}
-use Rattle.link.specs.Walk.{idAt}
+use Rattle.link.specs.Walk.{keyOf, idAt}
 use Rattle.link.proofs.Walks.{walked}
 use Rattle.link.proofs.walk.Walk.to.Statement.{statement}
 use Rattle.link.proofs.walk.Walk.to.Tie as tie

@@ -1,0 +1,48 @@
+-- What `turn` gives, from what its callees give. Assumes nothing.
+use Prim.Native.Nat.{_≤_, _<_, min}
+use mathlib.Core.Path.{_≡_, refl, sym, ap, subst, _∙_}
+use mathlib.Core.Logic.{_⊎_, inl, inr}
+use mathlib.Core.Bool.{Bool, true, false, cond}
+use borrow.Author.Tests.{lt-ltb, le-ltb}
+use lib.Dec.{ltb}
+use lib.Ieee.{Float}
+use Rattle.model.specs.declared.link.Link.{Link}
+use Rattle.model.specs.Limits.{linksMost}
+use Rattle.model.specs.DbInsert.{gains, before, sameEnds}
+use Rattle.link.specs.declared.factor.Factor.{Factor}
+use Rattle.link.specs.declared.pass.Pass.{Pass}
+use Rattle.link.specs.declared.pass.Turn.{Turn}
+use Rattle.link.specs.Factor.{Right}
+use Rattle.link.specs.Pass.{carriedOf, insertedOf, turnOf}
+
+either : (b : Bool) (x y : Turn) (f : Factor) → x .factor ≡ f → y .factor ≡ f → cond b x y .factor ≡ f
+either true x y f ex ey = ex
+either false x y f ex ey = ey
+
+module _ (lambda t : Float) (s : Pass) (l : Link) (f : Factor) where
+  pub carried-turn : (r : Turn) → s .carries ≡ true → r ≡ carriedOf s l f → Right lambda t f → Right lambda t (r .factor) × (r ≡ turnOf lambda t s l (r .factor))
+  carried-turn r on is right =
+      let e : r .factor ≡ f = ap (λ (v : Turn). v .factor) is ∙ either (ltb (s .at) (min (s .count) linksMost)) _ _ f refl refl in
+      (subst (Right lambda t) (sym e) right, is ∙ sym (rw on) ∙ ap (turnOf lambda t s l) (sym e))
+
+  module _ (off : s .carries ≡ false) where
+    pub gained-turn :
+        (new : Link) → s .walk .p < s .count → before l (s .walk .key) ≡ false → sameEnds l (s .walk .key) ≡ true → new ≡ gains lambda t l →
+        _≡_ {A = Turn} (record { link = new; gained = true; pass = s; factor = f }) (turnOf lambda t s l f)
+    gained-turn new h e d is = sym (rw (off, lt-ltb (s .walk .p) (s .count) h, e, d, ← is))
+
+    -- the key has no link: the place is past the last, or the link there stands after it
+    abbrev pub None : Type 0
+    None = (s .count ≤ s .walk .p) ⊎ ((s .walk .p < s .count) × (before l (s .walk .key) ≡ false) × (sameEnds l (s .walk .key) ≡ false))
+
+    inserts : None → turnOf lambda t s l f ≡ insertedOf lambda t s l f
+    inserts (inl h) = rw (off, le-ltb (s .walk .p) (s .count) h)
+    inserts (inr h) = rw (off, lt-ltb (s .walk .p) (s .count) (h .0), h .1, h .2)
+
+    pub waiting-turn :
+        (new : Link) → None → s .count < linksMost → new ≡ gains lambda t (s .walk .key) →
+        _≡_ {A = Turn} (record { link = l; gained = false; pass = record { walk = s .walk; count = s .count; carries = true; carry = new; at = s .walk .p }; factor = f }) (turnOf lambda t s l f)
+    waiting-turn new none room is = sym (inserts none ∙ rw (lt-ltb (s .count) linksMost room, ← is))
+
+    pub full-turn : None → linksMost ≤ s .count → _≡_ {A = Turn} (record { link = l; gained = true; pass = s; factor = f }) (turnOf lambda t s l f)
+    full-turn none full = sym (inserts none ∙ rw (le-ltb (s .count) linksMost full))

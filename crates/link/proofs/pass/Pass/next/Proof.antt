@@ -1,0 +1,15 @@
+use borrow.Author.Needs.{needs}
+use Rattle.link.proofs.pass.Pass.next.Statement.{statement}
+use Rattle.link.proofs.pass.Pass.next.Tie as tie
+use Rattle.link.proofs.pass.Pass.next.Reads as reads
+use Rattle.link.proofs.pass.Pass.next.Lts as lts
+use Rattle.link.proofs.walk.Walk.next.Reads as next-reads
+
+next-requires : tie.Need-next-requires
+next-requires c κs = search needs
+
+returns : tie.Need-returns
+returns c = rw (c .before .next .ensures)
+
+pub next-spec : {M : Type 1} → statement M
+next-spec = tie.close (tie.spec next-requires returns)

@@ -1,0 +1,168 @@
+// Links that gain: one pass through the pairs of neighbours and through the links at once, a place of the links a turn.
+use crate::factor::Factor;
+use crate::order::is_before;
+use crate::order::same_ends;
+use crate::walk::Walk;
+use model::LINKS;
+use model::Link;
+use model::MICROS;
+use model::MicroId;
+ghost use mathlib.Core.Path.{_≡_};
+ghost use Rattle.link.specs.Factor.{Right, gainsBy};
+ghost use Rattle.link.specs.Pass.{passFrom, placeOf, carriedOf, turnOf, nextPass};
+
+// How far the pairs and the links are walked, and how many links there are; `carries` says that
+// `carry` is on its way up the list, and `at` where to.
+pub struct Pass {
+    pub walk: Walk,
+    pub count: usize,
+    pub carries: bool,
+    pub carry: Link,
+    pub at: usize,
+}
+
+// A turn: the link that now stands at the place, and whether the pair has had its gain.
+pub struct Turn {
+    pub link: Link,
+    pub gained: bool,
+    pub pass: Pass,
+    pub factor: Factor,
+}
+
+// l faded to t, with 1 more.
+fn gained(l: Link, fade: f64, t: f64) -> Link
+    ensures { λ r. ⌜ r ≡ gainsBy fade t l ⌝ }
+{
+    let lo = l.lo;
+    let hi = l.hi;
+    Link {
+        lo,
+        hi,
+        value: l.value * fade + 1.0,
+        last: t,
+    }
+}
+
+impl Pass {
+    // At the first pair and the first link.
+    pub fn first(ids: [MicroId; MICROS], count: usize, t: f64) -> Pass
+        ensures { λ r. ⌜ r ≡ passFrom ids count t ⌝ }
+    {
+        let walk = Walk::first(ids, t);
+        let carry = walk.key;
+        Pass {
+            walk,
+            count: lists::cut(count, LINKS),
+            carries: false,
+            carry,
+            at: 0,
+        }
+    }
+
+    // The place of the links that the next turn looks at.
+    pub fn place(self) -> usize
+        ensures { λ r. ⌜ r ≡ placeOf self ⌝ }
+    {
+        let w = self.walk;
+        if self.carries {
+            return lists::cut(self.at, LINKS - 1);
+        }
+        lists::cut(w.p, LINKS - 1)
+    }
+
+    // l gives its place to the link carried and is carried on; past the last link the list has grown.
+    fn carried(self, l: Link, factor: Factor) -> Turn
+        ensures { λ r. ⌜ r ≡ carriedOf self l factor ⌝ }
+    {
+        let link = self.carry;
+        let count = lists::cut(self.count, LINKS);
+        if self.at < count {
+            let at = self.at + 1;
+            let pass = Pass {
+                carry: l,
+                at,
+                ..self
+            };
+            return Turn {
+                link,
+                gained: false,
+                pass,
+                factor,
+            };
+        }
+        let pass = Pass {
+            count: count + 1,
+            carries: false,
+            ..self
+        };
+        Turn {
+            link,
+            gained: true,
+            pass,
+            factor,
+        }
+    }
+
+    // l is the link at the place: it is passed, or it gains, or the pair's link goes there, if there is room.
+    pub fn turn(self, l: Link, factor: Factor, lambda: f64, t: f64) -> Turn
+        ensures { λ r. ⌜ (Right lambda t factor → Right lambda t (r .factor) × (r ≡ turnOf lambda t self l (r .factor))) ⌝ }
+    {
+        if self.carries {
+            return self.carried(l, factor);
+        }
+        let mut walk = self.walk;
+        let key = walk.key;
+        let at = walk.p;
+        if at < self.count {
+            if is_before(l, key) {
+                walk.p = at + 1;
+                let pass = Pass { walk, ..self };
+                return Turn {
+                    link: l,
+                    gained: false,
+                    pass,
+                    factor,
+                };
+            }
+            if same_ends(l, key) {
+                let since = factor.since(lambda, t, l.last);
+                return Turn {
+                    link: gained(l, since.fade, t),
+                    gained: true,
+                    pass: self,
+                    factor: since,
+                };
+            }
+        }
+        if self.count < LINKS {
+            let carry = gained(key, feature::fade(lambda, t, key.last), t);
+            let pass = Pass {
+                carries: true,
+                carry,
+                at,
+                ..self
+            };
+            return Turn {
+                link: l,
+                gained: false,
+                pass,
+                factor,
+            };
+        }
+        Turn {
+            link: l,
+            gained: true,
+            pass: self,
+            factor,
+        }
+    }
+
+    // At the next pair.
+    pub fn next(self, ids: [MicroId; MICROS], k: usize, t: f64) -> Pass
+        ensures { λ r. ⌜ r ≡ nextPass ids k t self ⌝ }
+    {
+        let w = self.walk;
+        let walk = w.next(ids, k, t);
+        Pass { walk, ..self }
+    }
+}
