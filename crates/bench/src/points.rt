@@ -3,11 +3,28 @@ use crate::draws::choice;
 use crate::draws::double;
 use crate::draws::step;
 use crate::draws::unit;
+ghost use Prim.Native.Nat.{_≤_};
 
-// A point, and the generator's state after it.
+// The most coordinates of a point.
+pub const MOST: usize = 15;
+
+// A point in its first places, and the generator's state after it.
 pub struct Drawn {
-    pub x: [f64; 3],
+    x: [f64; MOST],
     pub state: u64,
+}
+
+impl Drawn {
+    pub fn places(self) -> [f64; MOST] {
+        self.x
+    }
+}
+
+// The coordinates that a point of a kind has.
+pub fn dim_of(kind: u64) -> usize
+    ensures { λ r. ⌜ r ≤ 15 ⌝ }
+{
+    if kind < 6 { 3 } else { MOST }
 }
 
 // How many knots or micro-clusters a kind has.
@@ -19,6 +36,14 @@ fn live(kind: u64) -> u64 {
     }
 }
 
+fn placed(a: f64, b: f64, c: f64) -> [f64; MOST] {
+    let mut x = [0.0; MOST];
+    x[0] = a;
+    x[1] = b;
+    x[2] = c;
+    x
+}
+
 // Each coordinate is off by (unit - 0.5) times the width, about knot k moved along the first axis.
 fn about(k: u64, along: f64, width: f64, state: u64) -> Drawn {
     let s = step(state);
@@ -28,7 +53,7 @@ fn about(k: u64, along: f64, width: f64, state: u64) -> Drawn {
     let u = step(t);
     let c = 3.0 * double(k / 16) + (unit(u) - 0.5) * width;
     Drawn {
-        x: [a, b, c],
+        x: placed(a, b, c),
         state: u,
     }
 }
@@ -48,20 +73,12 @@ fn paired(i: u64, n: u64, state: u64) -> Drawn {
         let b = 3.0 * double(k / 4 % 4);
         let c = 3.0 * double(k / 16);
         return Drawn {
-            x: [a, b, c],
+            x: placed(a, b, c),
             state,
         };
     }
     let s = step(state);
     about(choice(s, n / 2), 0.6, 0.1, s)
-}
-
-// Point i of a kind below 6.
-pub fn point(kind: u64, i: u64, state: u64) -> Drawn {
-    if kind < 3 {
-        return lone(i, live(kind), state);
-    }
-    paired(i, live(kind), state)
 }
 
 fn times(bit: u64, part: u64) -> u64 {
@@ -79,17 +96,28 @@ fn word(i: u64) -> u64 {
 }
 
 // Point i of the worst kind: 64 words of 15 signs at a quarter each, then 0, which all 64 absorb.
-pub fn worst(i: u64) -> [f64; 15] {
-    let mut x = [0.0; 15];
+fn worst(i: u64) -> [f64; MOST] {
+    let mut x = [0.0; MOST];
     if i >= 64 {
         return x;
     }
     let mut w = word(i);
     let mut j: usize = 0;
-    while j < 15 {
+    while j < MOST {
         x[j] = if w % 2 == 1 { 0.25 } else { -0.25 };
         w = w / 2;
         j += 1;
     }
     x
+}
+
+// Point i of a kind.
+pub fn point(kind: u64, i: u64, state: u64) -> Drawn {
+    if kind < 3 {
+        return lone(i, live(kind), state);
+    }
+    if kind < 6 {
+        return paired(i, live(kind), state);
+    }
+    Drawn { x: worst(i), state }
 }

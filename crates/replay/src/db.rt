@@ -1,6 +1,7 @@
 // The operations on a DBSTREAM.
 use crate::answers::say_connectivity;
 use crate::answers::say_insertion;
+use crate::answers::say_opening;
 use crate::answers::say_prediction;
 use crate::figures::CENTRES;
 use crate::figures::put_feature;
@@ -9,6 +10,10 @@ use crate::figures::put_monitor;
 use crate::figures::say_counts;
 use crate::figures::say_drift;
 use crate::figures::say_statistics;
+use crate::input::OPERANDS;
+use crate::input::Record;
+use crate::input::doubles;
+use crate::output::ROOM;
 use crate::output::end;
 use crate::output::put;
 use crate::output::put_double;
@@ -16,6 +21,7 @@ use crate::output::put_number;
 use crate::output::put_whole;
 use crate::output::say;
 use dbstream::DbStream;
+use dbstream::Opened;
 use model::DbMicro;
 use model::LINKS;
 use model::Link;
@@ -23,7 +29,7 @@ use model::MICROS;
 use model::MicroId;
 use model::Reading;
 
-pub fn insert(line: &mut [u8], s: DbStream, x: &[f64]) -> DbStream {
+fn insert(line: &mut [u8], s: DbStream, x: &[f64]) -> DbStream {
     let r = s.try_insert(x);
     let next = r.stream;
     let answer = r.answer;
@@ -32,7 +38,7 @@ pub fn insert(line: &mut [u8], s: DbStream, x: &[f64]) -> DbStream {
 }
 
 // The labels, into a slice of that length.
-pub fn labels(line: &mut [u8], s: DbStream, capacity: usize) {
+fn labels(line: &mut [u8], s: DbStream, capacity: usize) {
     let count = s.label_count;
     let mut out = [0i64; MICROS];
     let n = lists::cut(capacity, MICROS);
@@ -46,13 +52,13 @@ pub fn labels(line: &mut [u8], s: DbStream, capacity: usize) {
     end(line, at);
 }
 
-pub fn predict(line: &mut [u8], s: DbStream, x: &[f64]) {
+fn predict(line: &mut [u8], s: DbStream, x: &[f64]) {
     let answer = s.try_predict(x);
     say_prediction(line, answer);
 }
 
 // Centres, weights and radii, into slices of these lengths.
-pub fn statistics(line: &mut [u8], s: DbStream, c: usize, w: usize, r: usize) {
+fn statistics(line: &mut [u8], s: DbStream, c: usize, w: usize, r: usize) {
     let mut centres = [0.0; CENTRES];
     let mut weights = [0.0; MICROS];
     let mut radii = [0.0; MICROS];
@@ -69,17 +75,17 @@ pub fn statistics(line: &mut [u8], s: DbStream, c: usize, w: usize, r: usize) {
     say_statistics(line, n, dim, centres, weights, radii);
 }
 
-pub fn connectivity(line: &mut [u8], s: DbStream, a: u64, b: u64) {
+fn connectivity(line: &mut [u8], s: DbStream, a: u64, b: u64) {
     let answer = s.connectivity(MicroId(a), MicroId(b));
     say_connectivity(line, answer);
 }
 
-pub fn drift(line: &mut [u8], s: DbStream) {
+fn drift(line: &mut [u8], s: DbStream) {
     let report = s.drift();
     say_drift(line, report);
 }
 
-pub fn counts(line: &mut [u8], s: DbStream) {
+fn counts(line: &mut [u8], s: DbStream) {
     say_counts(line, s.dim(), s.micro_count(), s.n_clusters());
 }
 
@@ -131,7 +137,7 @@ fn put_links(line: &mut [u8], from: usize, links: [Link; LINKS], n: usize) -> us
 }
 
 // Every kept figure.
-pub fn figures(line: &mut [u8], s: DbStream) {
+fn figures(line: &mut [u8], s: DbStream) {
     let micros = s.micros;
     let links = s.links;
     let kept = s.labels;
@@ -144,4 +150,44 @@ pub fn figures(line: &mut [u8], s: DbStream) {
     let k = put_labels(line, l, kept, s.label_count);
     let d = put_monitor(line, k, monitor);
     end(line, d);
+}
+
+pub fn open(r: Record) -> Opened {
+    let mut line = [0u8; ROOM];
+    let words = r.words;
+    let xs = doubles(words);
+    let opened = DbStream::new(words[0] as usize, xs[1], xs[2], xs[3], xs[4]);
+    let answer = opened.answer;
+    say_opening(&mut line, answer);
+    opened
+}
+
+// An operation on the current stream.
+pub fn act(s: DbStream, r: Record) -> DbStream {
+    let mut line = [0u8; ROOM];
+    let words = r.words;
+    let xs = doubles(words);
+    let n = lists::cut(r.count, OPERANDS);
+    let op = r.op;
+    match op {
+        3 => return insert(&mut line, s, &xs[..n]),
+        4 => {
+            say(&mut line, b"ok");
+            return s.cluster();
+        }
+        5 => labels(&mut line, s, words[0] as usize),
+        6 => predict(&mut line, s, &xs[..n]),
+        7 => statistics(
+            &mut line,
+            s,
+            words[0] as usize,
+            words[1] as usize,
+            words[2] as usize,
+        ),
+        8 => connectivity(&mut line, s, words[0], words[1]),
+        9 => drift(&mut line, s),
+        13 => figures(&mut line, s),
+        _ => counts(&mut line, s),
+    }
+    s
 }

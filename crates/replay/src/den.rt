@@ -1,5 +1,6 @@
 // The operations on a DenStream.
 use crate::answers::say_insertion;
+use crate::answers::say_opening;
 use crate::answers::say_prediction;
 use crate::figures::CENTRES;
 use crate::figures::put_feature;
@@ -8,17 +9,22 @@ use crate::figures::put_monitor;
 use crate::figures::say_counts;
 use crate::figures::say_drift;
 use crate::figures::say_statistics;
+use crate::input::OPERANDS;
+use crate::input::Record;
+use crate::input::doubles;
+use crate::output::ROOM;
 use crate::output::end;
 use crate::output::put;
 use crate::output::put_number;
 use crate::output::put_whole;
 use crate::output::say;
 use denstream::DenStream;
+use denstream::Opened;
 use model::MICROS;
 use model::Micro;
 use model::Reading;
 
-pub fn insert(line: &mut [u8], s: DenStream, x: &[f64]) -> DenStream {
+fn insert(line: &mut [u8], s: DenStream, x: &[f64]) -> DenStream {
     let r = s.try_insert(x);
     let next = r.stream;
     let answer = r.answer;
@@ -27,7 +33,7 @@ pub fn insert(line: &mut [u8], s: DenStream, x: &[f64]) -> DenStream {
 }
 
 // The labels, into a slice of that length.
-pub fn labels(line: &mut [u8], s: DenStream, capacity: usize) {
+fn labels(line: &mut [u8], s: DenStream, capacity: usize) {
     let count = s.label_count;
     let mut out = [0i64; MICROS];
     let n = lists::cut(capacity, MICROS);
@@ -41,13 +47,13 @@ pub fn labels(line: &mut [u8], s: DenStream, capacity: usize) {
     end(line, at);
 }
 
-pub fn predict(line: &mut [u8], s: DenStream, x: &[f64]) {
+fn predict(line: &mut [u8], s: DenStream, x: &[f64]) {
     let answer = s.try_predict(x);
     say_prediction(line, answer);
 }
 
 // Centres, weights and radii, into slices of these lengths.
-pub fn statistics(line: &mut [u8], s: DenStream, c: usize, w: usize, r: usize) {
+fn statistics(line: &mut [u8], s: DenStream, c: usize, w: usize, r: usize) {
     let mut centres = [0.0; CENTRES];
     let mut weights = [0.0; MICROS];
     let mut radii = [0.0; MICROS];
@@ -64,12 +70,12 @@ pub fn statistics(line: &mut [u8], s: DenStream, c: usize, w: usize, r: usize) {
     say_statistics(line, n, dim, centres, weights, radii);
 }
 
-pub fn drift(line: &mut [u8], s: DenStream) {
+fn drift(line: &mut [u8], s: DenStream) {
     let report = s.drift();
     say_drift(line, report);
 }
 
-pub fn counts(line: &mut [u8], s: DenStream) {
+fn counts(line: &mut [u8], s: DenStream) {
     say_counts(line, s.dim(), s.potential_count(), s.n_clusters());
 }
 
@@ -99,7 +105,7 @@ fn put_micros(
 }
 
 // Every kept figure.
-pub fn figures(line: &mut [u8], s: DenStream) {
+fn figures(line: &mut [u8], s: DenStream) {
     let potential = s.potential;
     let outliers = s.outliers;
     let kept = s.labels;
@@ -112,4 +118,44 @@ pub fn figures(line: &mut [u8], s: DenStream) {
     let k = put_labels(line, o, kept, s.label_count);
     let d = put_monitor(line, k, monitor);
     end(line, d);
+}
+
+pub fn open(r: Record) -> Opened {
+    let mut line = [0u8; ROOM];
+    let words = r.words;
+    let xs = doubles(words);
+    let opened = DenStream::new(words[0] as usize, xs[1], xs[2], xs[3], xs[4]);
+    let answer = opened.answer;
+    say_opening(&mut line, answer);
+    opened
+}
+
+// An operation on the current stream.
+pub fn act(s: DenStream, r: Record) -> DenStream {
+    let mut line = [0u8; ROOM];
+    let words = r.words;
+    let xs = doubles(words);
+    let n = lists::cut(r.count, OPERANDS);
+    let op = r.op;
+    match op {
+        3 => return insert(&mut line, s, &xs[..n]),
+        4 => {
+            say(&mut line, b"ok");
+            return s.cluster();
+        }
+        5 => labels(&mut line, s, words[0] as usize),
+        6 => predict(&mut line, s, &xs[..n]),
+        7 => statistics(
+            &mut line,
+            s,
+            words[0] as usize,
+            words[1] as usize,
+            words[2] as usize,
+        ),
+        8 => say(&mut line, b"none"),
+        9 => drift(&mut line, s),
+        13 => figures(&mut line, s),
+        _ => counts(&mut line, s),
+    }
+    s
 }

@@ -1,14 +1,12 @@
-use mathlib.Core.Path.{_≡_, refl}
-use lib.ListN.{length}
 use borrow.Author.Needs.{needs}
 use Rattle.replay.proofs.main.Statement.{statement}
 use Rattle.replay.proofs.main.Tie as tie
 
 abbrev Inv-loop : tie.InvT-loop
-Inv-loop line₀ m₀ left₀ line m left = length line ≡ 4096
+Inv-loop db₀ den₀ watched₀ kind₀ left₀ t15 db den watched kind left = Unit {0}
 
 abbrev μ-loop : tie.MeasureT-loop
-μ-loop line₀ m₀ left₀ line m left = left
+μ-loop db₀ den₀ watched₀ kind₀ left₀ t15 db den watched kind left = left
 
 new-requires : tie.Need-new-requires Inv-loop μ-loop
 new-requires c κs = search needs
@@ -20,16 +18,46 @@ new-requires-3 : tie.Need-new-requires-3 Inv-loop μ-loop
 new-requires-3 c κs = search needs
 
 loop-holds : tie.Need-loop-holds Inv-loop μ-loop
-loop-holds c = refl
+loop-holds c = tt
 
-slice-aggregate-turn : tie.Need-slice-aggregate-turn Inv-loop μ-loop
-slice-aggregate-turn c = search needs
-
-turn-requires : tie.Need-turn-requires Inv-loop μ-loop
-turn-requires c κs = search needs
+next-record-requires : tie.Need-next-record-requires Inv-loop μ-loop
+next-record-requires c κs = search needs
 
 returns : tie.Need-returns Inv-loop μ-loop
 returns c = tt
+
+is-meant-requires : tie.Need-is-meant-requires Inv-loop μ-loop
+is-meant-requires c κs = search needs
+
+act-requires : tie.Need-act-requires Inv-loop μ-loop
+act-requires c κs = search needs
+
+open-requires : tie.Need-open-requires Inv-loop μ-loop
+open-requires c κs = search needs
+
+is-open-requires : tie.Need-is-open-requires Inv-loop μ-loop
+is-open-requires c κs = search needs
+
+open-requires-2 : tie.Need-open-requires-2 Inv-loop μ-loop
+open-requires-2 c κs = search needs
+
+is-open-requires-2 : tie.Need-is-open-requires-2 Inv-loop μ-loop
+is-open-requires-2 c κs = search needs
+
+act-requires-2 : tie.Need-act-requires-2 Inv-loop μ-loop
+act-requires-2 c κs = search needs
+
+act-requires-3 : tie.Need-act-requires-3 Inv-loop μ-loop
+act-requires-3 c κs = search needs
+
+slice-aggregate-say : tie.Need-slice-aggregate-say Inv-loop μ-loop
+slice-aggregate-say c = search needs
+
+slice-aggregate-say-2 : tie.Need-slice-aggregate-say-2 Inv-loop μ-loop
+slice-aggregate-say-2 c = search needs
+
+say-requires : tie.Need-say-requires Inv-loop μ-loop
+say-requires c κs = search needs
 
 sub-left : tie.Need-sub-left Inv-loop μ-loop
 sub-left c = search needs
@@ -38,7 +66,7 @@ loop-less : tie.Need-loop-less Inv-loop μ-loop
 loop-less c = search needs
 
 loop-again : tie.Need-loop-again Inv-loop μ-loop
-loop-again c = search needs
+loop-again c = tt
 
 returns-2 : tie.Need-returns-2 Inv-loop μ-loop
 returns-2 c = tt
@@ -53,9 +81,19 @@ main-spec =
     new-requires-2
     new-requires-3
     loop-holds
-    slice-aggregate-turn
-    turn-requires
+    next-record-requires
     returns
+    is-meant-requires
+    act-requires
+    open-requires
+    is-open-requires
+    open-requires-2
+    is-open-requires-2
+    act-requires-2
+    act-requires-3
+    slice-aggregate-say
+    slice-aggregate-say-2
+    say-requires
     sub-left
     loop-less
     loop-again

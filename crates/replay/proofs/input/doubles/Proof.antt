@@ -2,8 +2,8 @@ use Prim.Native.Nat.{_-_}
 use mathlib.Core.Path.{_≡_, refl}
 use lib.ListN.{length}
 use borrow.Author.Needs.{needs}
-use Rattle.replay.proofs.doubles.Statement.{statement}
-use Rattle.replay.proofs.doubles.Tie as tie
+use Rattle.replay.proofs.input.doubles.Statement.{statement}
+use Rattle.replay.proofs.input.doubles.Tie as tie
 
 abbrev Inv-loop : tie.InvT-loop
 Inv-loop words xs₀ i₀ xs i = length xs ≡ 64
