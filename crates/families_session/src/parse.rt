@@ -5,7 +5,7 @@ use words::word_at;
 ghost use mathlib.Core.Path.{_≡_};
 ghost use Prim.Native.Nat.{_+_, _*_, _≤_};
 ghost use lib.ListN.{length, take};
-ghost use Rattle.families_text.specs.Input.{doubleAt, doublesFrom, isWhole};
+ghost use Rattle.families_session.specs.Input.{doubleAt, doublesFrom, isWhole};
 
 const INPUT: usize = 65536;
 

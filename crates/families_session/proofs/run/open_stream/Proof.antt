@@ -1,10 +1,10 @@
 -- `open_stream` meets its contract. Assumes nothing.
 use mathlib.Core.Path.{_∙_, ap}
 use borrow.Author.Needs.{needs}
-use Rattle.families_text.proofs.Inputs.{settings-are}
+use Rattle.families_session.proofs.Inputs.{settings-are}
 use Rattle.model.specs.DbState.{openOf}
-use Rattle.families_text.proofs.run.open_stream.Statement.{statement}
-use Rattle.families_text.proofs.run.open_stream.Tie as tie
+use Rattle.families_session.proofs.run.open_stream.Statement.{statement}
+use Rattle.families_session.proofs.run.open_stream.Tie as tie
 
 word-at-requires : tie.Need-word-at-requires
 word-at-requires c κs = search needs

@@ -1,4 +1,4 @@
-// A stream is opened, takes the points, and is clustered.
+// A stream is opened and takes the points.
 use crate::parse::HEAD;
 use crate::parse::WORD;
 use crate::parse::double_at;
@@ -7,18 +7,15 @@ use crate::refusal::insertion_number;
 use dbstream::DbStream;
 use dbstream::Inserted;
 use dbstream::Opened;
-use families_lines::Text;
 use model::Insertion;
-use model::MICROS;
 use words::word_at;
 ghost use mathlib.Core.Path.{_≡_};
 ghost use Prim.Native.Nat.{_-_, _*_, _/_, _≤_};
 ghost use lib.ListN.{length};
 ghost use Rattle.model.specs.DbState.{openOf};
 ghost use Rattle.dbstream.specs.Stream.{view, openedTold, insertedTold};
-ghost use Rattle.families_text.specs.Input.{headSize, settingsIn, pointsFrom};
-ghost use Rattle.families_lines.specs.Lent.{textOf};
-ghost use Rattle.families_text.specs.Families.{insertAll, clusterText};
+ghost use Rattle.families_session.specs.Input.{headSize, settingsIn, pointsFrom};
+ghost use Rattle.families_session.specs.Session.{insertAll};
 
 pub(crate) fn open_stream(bytes: &[u8]) -> Opened
     ensures { λ o. ⌜ openedTold o ≡ openOf (settingsIn (now (bytes .entry))) ⌝ }
@@ -55,18 +52,4 @@ pub(crate) fn insert_all(stream: DbStream, bytes: &[u8], dim: usize) -> Inserted
         answer: Insertion::Done,
         stream: s,
     }
-}
-
-// The stream, clustered, as text.
-pub(crate) fn clustered_text(stream: DbStream) -> Text
-    ensures { λ r. ⌜ textOf r ≡ clusterText (view stream) ⌝ }
-{
-    let clustered = stream.cluster();
-    let n = clustered.micro_count();
-    let micros = clustered.micros;
-    let ids = micro::ids_of(micros, n);
-    let mut labels = [-1i64; MICROS];
-    clustered.labels(&mut labels);
-    let report = clustered.drift();
-    families_lines::listing(ids, labels, n, report)
 }

@@ -5,8 +5,8 @@ use lib.ListN.{length, replicate, length-map}
 use Rattle.dbstream.specs.Stream.{view}
 use Rattle.families_text.proofs.Clustered.{ids-are, text-is}
 use borrow.Author.Needs.{needs}
-use Rattle.families_text.proofs.run.clustered_text.Statement.{statement}
-use Rattle.families_text.proofs.run.clustered_text.Tie as tie
+use Rattle.families_text.proofs.clustered_text.Statement.{statement}
+use Rattle.families_text.proofs.clustered_text.Tie as tie
 
 cluster-requires : tie.Need-cluster-requires
 cluster-requires c κs = search needs

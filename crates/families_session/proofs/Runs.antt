@@ -13,8 +13,8 @@ use Rattle.model.specs.Answers.{insertionNumber}
 use Rattle.model.specs.Outcome.{Outcome}
 use Rattle.model.specs.DbState.{State}
 use Rattle.model.specs.DbInsert.{insertOf}
-use Rattle.families_text.specs.Input.{doublesFrom, pointsFrom}
-use Rattle.families_text.specs.Families.{isDone, insertAll}
+use Rattle.families_session.specs.Input.{doublesFrom, pointsFrom}
+use Rattle.families_session.specs.Session.{isDone, insertAll}
 
 -- the bytes of the points left are those of the next and of the others
 pub one-point : (left size : ℕ) → 0 < left → left * size ≡ size + (left - 1) * size

@@ -4,9 +4,9 @@ use mathlib.Core.Path.{_≡_, refl}
 use native.Mathlib.Omega.{arith}
 use lib.ListN.{length}
 use borrow.Author.Needs.{needs}
-use Rattle.families_text.proofs.Inputs.{Partly, read-start, read-step, read-end}
-use Rattle.families_text.proofs.parse.point.Statement.{statement}
-use Rattle.families_text.proofs.parse.point.Tie as tie
+use Rattle.families_session.proofs.Inputs.{Partly, read-start, read-step, read-end}
+use Rattle.families_session.proofs.parse.point.Statement.{statement}
+use Rattle.families_session.proofs.parse.point.Tie as tie
 
 abbrev Inv-loop : tie.InvT-loop
 Inv-loop bytes at dim x₀ i₀ x i = (i ≤ dim) × (length x ≡ 15) × Partly bytes at dim x i

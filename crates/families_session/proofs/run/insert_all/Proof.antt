@@ -7,11 +7,11 @@ use native.Mathlib.Omega.{arith}
 use lib.ListN.{length}
 use borrow.Author.Needs.{needs}
 use Rattle.dbstream.specs.Stream.{view, insertedTold}
-use Rattle.families_text.specs.Input.{pointsFrom}
-use Rattle.families_text.specs.Families.{insertAll}
-use Rattle.families_text.proofs.Runs.{one-point, none-left, goes-on, stops}
-use Rattle.families_text.proofs.run.insert_all.Statement.{statement}
-use Rattle.families_text.proofs.run.insert_all.Tie as tie
+use Rattle.families_session.specs.Input.{pointsFrom}
+use Rattle.families_session.specs.Session.{insertAll}
+use Rattle.families_session.proofs.Runs.{one-point, none-left, goes-on, stops}
+use Rattle.families_session.proofs.run.insert_all.Statement.{statement}
+use Rattle.families_session.proofs.run.insert_all.Tie as tie
 
 abbrev Inv-loop : tie.InvT-loop
 Inv-loop bytes dim step left₀ at₀ s₀ left at s = (at + left * (dim * 8) ≤ length bytes) × (insertAll (view s) (pointsFrom left dim bytes at) ≡ insertAll (view s₀) (pointsFrom left₀ dim bytes at₀))

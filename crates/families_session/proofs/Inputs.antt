@@ -14,7 +14,7 @@ use borrow.Author.Tests.{le-leb, lt-leb, eq-eqb, ne-eqb}
 use Rattle.words.specs.Word.{wordAt}
 use Rattle.model.specs.Questions.{dimInRange}
 use Rattle.dbstream.specs.Stream.{settings}
-use Rattle.families_text.specs.Input.{doubleAt, settingsIn, doublesFrom, isWhole}
+use Rattle.families_session.specs.Input.{doubleAt, settingsIn, doublesFrom, isWhole}
 
 -- ---- a point's doubles
 module _ (bytes : List ℕ) (at dim : ℕ) (x : List Float) (i : ℕ) where

@@ -2,8 +2,8 @@
 use mathlib.Core.Path.{ap, _∙_}
 use lib.Ieee.{binary64, ofBits}
 use borrow.Author.Needs.{needs}
-use Rattle.families_text.proofs.parse.double_at.Statement.{statement}
-use Rattle.families_text.proofs.parse.double_at.Tie as tie
+use Rattle.families_session.proofs.parse.double_at.Statement.{statement}
+use Rattle.families_session.proofs.parse.double_at.Tie as tie
 
 word-at-requires : tie.Need-word-at-requires
 word-at-requires c κs = search needs

@@ -6,9 +6,9 @@ use lib.Dec.{eqb}
 use lib.ListN.{length}
 use borrow.Author.Needs.{needs}
 use Rattle.model.specs.Questions.{dimInRange}
-use Rattle.families_text.proofs.Inputs.{too-long, too-short, no-words, whole-points, any-rest, in-range}
-use Rattle.families_text.proofs.parse.is_whole.Statement.{statement}
-use Rattle.families_text.proofs.parse.is_whole.Tie as tie
+use Rattle.families_session.proofs.Inputs.{too-long, too-short, no-words, whole-points, any-rest, in-range}
+use Rattle.families_session.proofs.parse.is_whole.Statement.{statement}
+use Rattle.families_session.proofs.parse.is_whole.Tie as tie
 
 returns : tie.Need-returns
 returns c = too-long (c .before .before .args .bytes .now) (c .if1 .taken)
