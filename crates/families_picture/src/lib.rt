@@ -2,6 +2,7 @@
 use dbstream::DbStream;
 use families_lines::Text;
 use model::MICROS;
+use picture_text::CENTRES;
 ghost use mathlib.Core.Path.{_≡_};
 ghost use mathlib.Core.List.{[]};
 ghost use lib.ListN.{take};
@@ -13,8 +14,6 @@ ghost use Rattle.families_picture.specs.Picture.{drawnOf, pictureText};
 
 // The figures of a reading: rate, amplitude and beat error.
 const FIGURES: usize = 3;
-
-const CENTRES: usize = 192;
 
 // The stream, clustered, in words and as a picture.
 fn drawn(stream: DbStream) -> Text

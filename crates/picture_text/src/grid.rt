@@ -2,10 +2,10 @@
 use crate::figure::add_tenths;
 use crate::figure::rounded;
 use crate::row::CENTRES;
-use crate::row::MICROS;
 use crate::row::WEAK;
 use crate::row::row_at;
 use families_lines::Text;
+use model::MICROS;
 use page::add;
 ghost use mathlib.Core.Path.{_≡_};
 ghost use Prim.Native.Nat.{_+_, _≤_, _<_};

@@ -5,8 +5,8 @@ mod row;
 mod words;
 
 use families_lines::Text;
-use row::CENTRES;
-use row::MICROS;
+use model::MICROS;
+pub use row::CENTRES;
 ghost use Prim.Native.Nat.{min};
 ghost use Rattle.families_lines.specs.Lent.{textOf};
 ghost use Rattle.page.specs.Added.{Added};

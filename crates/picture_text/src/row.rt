@@ -1,12 +1,11 @@
 // A micro-cluster as a reading: its centre's figures, its weight and the mark of its family.
+use model::MICROS;
 ghost use mathlib.Core.Path.{_≡_};
 ghost use Prim.Native.Nat.{_<_};
 ghost use Rattle.picture_text.specs.Row.{letterOf, markOf, rowAt};
 
-// A stream's micro-clusters, and the three figures of each centre.
-pub(crate) const MICROS: usize = 64;
-
-pub(crate) const CENTRES: usize = 192;
+// The three figures of each centre.
+pub const CENTRES: usize = 192;
 
 // The mark of what is in no family.
 pub(crate) const WEAK: u8 = b'.';
