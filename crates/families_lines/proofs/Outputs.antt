@@ -35,9 +35,9 @@ module _ (text lent : List ℕ) where
       (n ∙ ap (λ (b : Bool). cond b (length text) 0) (sym e), (p .text ∙ ap (λ (i : ℕ). text ++ drop i lent) z ∙ ap (λ (b : Bool). cond b (written text lent) lent) (sym e), (k, sym (length-take-le r out k))))
 
 -- a text's length, cut to the room, is its length
-module _ (t : Text) (n : ℕ) (cut : n ≡ min (t .len) 4096) (room : length (t .bytes) ≡ 4096) where
+module _ (t : Text) (n : ℕ) (cut : n ≡ min (t .len) 16384) (room : length (t .bytes) ≡ 16384) where
   pub cut-text : take n (t .bytes) ≡ textOf t
-  cut-text = cut-take n (t .len) 4096 (t .bytes) cut room
+  cut-text = cut-take n (t .len) 16384 (t .bytes) cut room
 
   pub cut-length : length (textOf t) ≡ n
   cut-length = length-take (t .len) (t .bytes) ∙ ap (min (t .len)) room ∙ sym cut

@@ -4,4 +4,5 @@ mod text;
 
 pub use lines::listing;
 pub use lines::refused;
+pub use text::ROOM;
 pub use text::Text;

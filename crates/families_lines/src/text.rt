@@ -7,8 +7,8 @@ ghost use Rattle.families_lines.specs.Lent.{textOf, lengthIn, textIn};
 ghost use Rattle.families_lines.specs.Put.{Put};
 ghost use Rattle.families_lines.specs.Text.{decimal};
 
-// Room for every text: 64 lines of at most 43 bytes, and a last one of at most 56.
-pub(crate) const ROOM: usize = 4096;
+// Room for every text of `families`, 64 lines of at most 43 bytes and a last one of at most 56; and for a picture.
+pub const ROOM: usize = 16384;
 
 // The most digits of a number.
 const DIGITS: usize = 20;

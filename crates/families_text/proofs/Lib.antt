@@ -1,4 +1,2 @@
-pub mod Inputs
-pub mod Runs
 pub mod Clustered
 pub mod Texts

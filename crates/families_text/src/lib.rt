@@ -1,37 +1,38 @@
 // What `families` prints for the bytes of its input.
-mod parse;
-mod refusal;
-mod run;
-
+use dbstream::DbStream;
 use families_lines::Text;
-use words::word_at;
+use model::MICROS;
 ghost use mathlib.Core.Path.{_≡_};
 ghost use Rattle.io.specs.Counts.{Counts};
+ghost use Rattle.dbstream.specs.Stream.{view};
 ghost use Rattle.families_lines.specs.Lent.{textOf, lengthIn, textIn};
-ghost use Rattle.families_text.specs.Families.{familiesText};
+ghost use Rattle.families_text.specs.Families.{clusterText, familiesText};
 
-// The input is asked about first, then the opening, then each insert; the first refusal is all that is printed.
+// The stream, clustered, as text.
+fn clustered_text(stream: DbStream) -> Text
+    ensures { λ r. ⌜ textOf r ≡ clusterText (view stream) ⌝ }
+{
+    let clustered = stream.cluster();
+    let n = clustered.micro_count();
+    let micros = clustered.micros;
+    let ids = micro::ids_of(micros, n);
+    let mut labels = [-1i64; MICROS];
+    clustered.labels(&mut labels);
+    let report = clustered.drift();
+    families_lines::listing(ids, labels, n, report)
+}
+
+// A refusal is all that is printed.
 fn text_of(input: &[u8]) -> Text
     ensures { λ r. ⌜ textOf r ≡ familiesText (now (input .entry)) ⌝ }
 {
-    if !parse::is_whole(input) {
-        return families_lines::refused(refusal::INPUT_REFUSED);
-    }
-    let opened = run::open_stream(input);
-    let opening = opened.answer;
-    if !opening.is_open() {
-        return families_lines::refused(refusal::opening_number(opening));
-    }
-    let dim = word_at(input, 0) as usize;
-    let fresh = opened.stream;
-    let inserted = run::insert_all(fresh, input, dim);
-    let answer = inserted.answer;
-    let number = refusal::insertion_number(answer);
+    let session = families_session::session_of(input);
+    let number = session.number;
     if number != 0 {
         return families_lines::refused(number);
     }
-    let stream = inserted.stream;
-    run::clustered_text(stream)
+    let stream = session.stream;
+    clustered_text(stream)
 }
 
 // The text at the start of the output, and how long it is; nothing and 0 where the output has no place for all of it.

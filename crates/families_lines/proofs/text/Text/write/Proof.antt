@@ -12,7 +12,7 @@ use Rattle.families_lines.proofs.text.Text.write.Statement.{statement}
 use Rattle.families_lines.proofs.text.Text.write.Tie as tie
 
 -- the room of a text
-room : (c : tie.Start) → length (c .args .self .bytes) ≡ 4096
+room : (c : tie.Start) → length (c .args .self .bytes) ≡ 16384
 room c = sym (length-map (c .args .self .bytes) _) ∙ c .good .0 .1 .1 .0 .1 .0 .1
 
 cut-requires : tie.Need-cut-requires

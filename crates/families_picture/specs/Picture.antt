@@ -1,0 +1,38 @@
+-- The text that `picture` prints for an input. Definitions only.
+use Prim.Native.Nat.{ℕ, min}
+use mathlib.Core.Bool.{cond}
+use mathlib.Core.List.{List}
+use lib.Dec.{eqb}
+use lib.IntN.{negsuc}
+use lib.ListN.{length, replicate}
+use Rattle.float.specs.Rounded.{nought}
+use Rattle.drift.specs.Monitor.{reportOf}
+use Rattle.model.specs.ReadOut.{Statistics}
+use Rattle.model.specs.DbState.{State}
+use Rattle.model.specs.DbCluster.{clusterOf, labelsReadOf, statisticsOf}
+use Rattle.families_lines.specs.Ascii.{ascii}
+use Rattle.families_lines.specs.Text.{refusedLine}
+use Rattle.families_session.specs.Session.{Ran, ranOf}
+use Rattle.picture_text.specs.Picture.{pageOf}
+
+-- the statistics, read into 64 places
+abbrev pub figuresOf : State → Statistics
+figuresOf s = statisticsOf s (replicate 192 nought) (replicate 64 nought) (replicate 64 nought)
+
+-- the families after cluster, their figures, and the alarms
+unfoldable pub drawnOf : State → List ℕ
+drawnOf s =
+    pageOf (min (length (s .micros)) 64) (figuresOf (clusterOf s) .centres) (figuresOf (clusterOf s) .weights)
+    (labelsReadOf (clusterOf s) (replicate 64 (negsuc 0)) .labels)
+    (reportOf (s .drift) .alarms)
+
+-- three figures a reading, or no picture
+abbrev pub dimText : State → List ℕ
+dimText s = cond (eqb (s .settings .dim) 3) (drawnOf s) (ascii "a picture needs dim 3\n")
+
+abbrev pub ranText : Ran → List ℕ
+ranText r = cond (eqb (r .number) 0) (dimText (r .stream)) (refusedLine (r .number))
+
+unfoldable pub pictureText : List ℕ → List ℕ
+unfolding ranOf drawnOf
+pictureText bytes = ranText (ranOf bytes)

@@ -1,0 +1,58 @@
+// What `picture` prints for the bytes of its input: the families in words and as a picture.
+use dbstream::DbStream;
+use families_lines::Text;
+use model::MICROS;
+use picture_text::CENTRES;
+ghost use mathlib.Core.Path.{_≡_};
+ghost use mathlib.Core.List.{[]};
+ghost use lib.ListN.{take};
+ghost use Rattle.io.specs.Counts.{Counts};
+ghost use Rattle.dbstream.specs.Stream.{view};
+ghost use Rattle.families_lines.specs.Lent.{textOf, lengthIn, textIn};
+ghost use Rattle.page.specs.Added.{room, Added};
+ghost use Rattle.families_picture.specs.Picture.{drawnOf, pictureText};
+
+// The figures of a reading: rate, amplitude and beat error.
+const FIGURES: usize = 3;
+
+// The stream, clustered, in words and as a picture.
+fn drawn(stream: DbStream) -> Text
+    ensures { λ r. ⌜ Added [] (drawnOf (view stream)) (textOf r) ⌝ }
+{
+    let clustered = stream.cluster();
+    let mut centres = [0.0; CENTRES];
+    let mut weights = [0.0; MICROS];
+    let mut radii = [0.0; MICROS];
+    clustered.micro_stats(&mut centres, &mut weights, &mut radii);
+    let mut labels = [-1i64; MICROS];
+    clustered.labels(&mut labels);
+    let report = clustered.drift();
+    let n = clustered.micro_count();
+    picture_text::drawn(page::blank(), centres, weights, labels, n, report.alarms)
+}
+
+// A refusal is all that is printed; so is that another dim has no picture.
+fn text_of(input: &[u8]) -> Text
+    ensures { λ r. ⌜ Added [] (pictureText (now (input .entry))) (textOf r) ⌝ }
+{
+    let session = families_session::session_of(input);
+    let number = session.number;
+    if number != 0 {
+        return families_lines::refused(number);
+    }
+    let stream = session.stream;
+    if stream.dim() != FIGURES {
+        return page::add(page::blank(), b"a picture needs dim 3\n");
+    }
+    drawn(stream)
+}
+
+// The text at the start of the output, and how long it is; nothing and 0 where the output has no place for all of it.
+pub fn picture(input: &[u8], output: &mut [u8]) -> usize
+    ensures { λ r. ⌜ r ≡ lengthIn (take room (pictureText (now (input .entry)))) (now (output .entry)) ⌝ }
+    ensures { λ r. ⌜ now (output .exit) ≡ textIn (take room (pictureText (now (input .entry)))) (now (output .entry)) ⌝ }
+    ensures { λ r. ⌜ Counts r (now (output .exit)) ⌝ }
+{
+    let text = text_of(input);
+    text.write(output)
+}

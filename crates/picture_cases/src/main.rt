@@ -1,0 +1,32 @@
+// Inputs at the edges of `picture`, each under a heading; the gate compares the text with the file stdout.
+const STDOUT: i32 = 1;
+
+fn show(heading: &[u8], input: &[u8]) {
+    let mut output = [0u8; families_lines::ROOM];
+    let n = families_picture::picture(input, &mut output);
+    io::write_all(STDOUT, heading);
+    io::write_all(STDOUT, b":\n");
+    io::write_all(STDOUT, &output[..n]);
+}
+
+// Settings: dim, r, lambda 2^-10, alpha 0.5, min_weight 1; then the readings.
+fn main() {
+    show(b"no input", b"");
+    show(
+        b"r 0",
+        b"\x03\0\0\0\0\0\0\0\0\0\0\0\0\0\0\0\0\0\0\0\0\0\x50\x3f\0\0\0\0\0\0\xe0\x3f\0\0\0\0\0\0\xf0\x3f",
+    );
+    show(
+        b"dim 1",
+        b"\x01\0\0\0\0\0\0\0\0\0\0\0\0\0\xf0\x3f\0\0\0\0\0\0\x50\x3f\0\0\0\0\0\0\xe0\x3f\0\0\0\0\0\0\xf0\x3f",
+    );
+    show(
+        b"no reading",
+        b"\x03\0\0\0\0\0\0\0\0\0\0\0\0\0\xf0\x3f\0\0\0\0\0\0\x50\x3f\0\0\0\0\0\0\xe0\x3f\0\0\0\0\0\0\xf0\x3f",
+    );
+    // A NaN, infinity and figures past the edges; min_weight 0.5.
+    show(
+        b"outside",
+        b"\x03\0\0\0\0\0\0\0\0\0\0\0\0\0\xf0\x3f\0\0\0\0\0\0\x50\x3f\0\0\0\0\0\0\xe0\x3f\0\0\0\0\0\0\xe0\x3f\0\0\0\0\0\0\xf8\x7f\0\0\0\0\0\xc0\x72\x40\0\0\0\0\0\0\x14\xc0\0\0\0\0\0\0\x70\x7e\0\0\0\0\0\0\xf0\xbf\0\0\0\0\0\0\xf0\x7f\0\0\0\0\0\0\x69\xc0\0\0\0\0\0\x24\xfe\x40\0\0\0\0\0\xc0\x58\x40\0\0\0\0\0\0\0\0\0\0\0\0\0\0\0\0\0\0\0\0\0\0\0\0",
+    );
+}

@@ -1,0 +1,128 @@
+// Families in words.
+use crate::figure::add_signed;
+use crate::figure::add_tenths;
+use crate::figure::rounded;
+use crate::row::CENTRES;
+use crate::row::Row;
+use crate::row::WEAK;
+use crate::row::letter;
+use crate::row::row_at;
+use families_lines::Text;
+use model::MICROS;
+use page::add;
+ghost use Prim.Native.Nat.{_≤_};
+ghost use Rattle.families_lines.specs.Lent.{textOf};
+ghost use Rattle.page.specs.Added.{Added, each};
+ghost use Rattle.picture_text.specs.Row.{letterOf, rowAt};
+ghost use Rattle.picture_text.specs.Words.{headingOf, lineOf, lineIn, linesIn, alarmOf, wordsOf};
+
+// One more than the letters that there are: the last is the sign that other families share.
+const LETTERS: u64 = 53;
+
+fn add_heading(text: Text, mark: u8) -> Text
+    ensures { λ r. ⌜ Added (textOf text) (headingOf mark) (textOf r) ⌝ }
+{
+    if mark == WEAK {
+        return add(text, b"no family");
+    }
+    let family = add(text, b"family ");
+    let named = page::add_byte(family, mark);
+    add(named, b" ")
+}
+
+fn add_line(text: Text, row: Row) -> Text
+    ensures { λ r. ⌜ Added (textOf text) (lineOf row) (textOf r) ⌝ }
+{
+    let named = add_heading(text, row.mark);
+    let rate_at = add(named, b"  rate ");
+    let rate = add_signed(rate_at, 3, row.rate);
+    let amplitude_at = add(rate, b" s/d   amplitude ");
+    let amplitude = page::add_right(amplitude_at, 3, b' ', rounded(row.amplitude));
+    let beat_at = add(amplitude, b" deg   beat error ");
+    let beat = add_tenths(beat_at, 1, b' ', rounded(row.beat));
+    let weight_at = add(beat, b" ms   weight ");
+    let weight = add_tenths(weight_at, 3, b' ', rounded(row.weight * 10.0));
+    add(weight, b"\n")
+}
+
+// The line of a micro-cluster, if it has this mark.
+fn add_line_in(text: Text, row: Row, mark: u8) -> Text
+    ensures { λ r. ⌜ Added (textOf text) (lineIn mark row) (textOf r) ⌝ }
+{
+    if row.mark == mark {
+        return add_line(text, row);
+    }
+    text
+}
+
+// The lines of the micro-clusters that have this mark.
+fn add_lines_in(
+    text: Text,
+    centres: [f64; CENTRES],
+    weights: [f64; MICROS],
+    labels: [i64; MICROS],
+    n: usize,
+    mark: u8,
+) -> Text
+    requires { ⌜ n ≤ 64 ⌝ }
+    ensures { λ r. ⌜ Added (textOf text) (linesIn (rowAt centres weights labels) n mark) (textOf r) ⌝ }
+{
+    let mut t = text;
+    let mut i: usize = 0;
+    while i < n {
+        t = add_line_in(t, row_at(centres, weights, labels, i), mark);
+        i += 1;
+    }
+    t
+}
+
+// Family by family.
+fn add_families(
+    text: Text,
+    centres: [f64; CENTRES],
+    weights: [f64; MICROS],
+    labels: [i64; MICROS],
+    n: usize,
+) -> Text
+    requires { ⌜ n ≤ 64 ⌝ }
+    ensures { λ r. ⌜ Added (textOf text) (each (λ k. linesIn (rowAt centres weights labels) n (letterOf k)) 53) (textOf r) ⌝ }
+{
+    let mut t = text;
+    let mut family: u64 = 0;
+    while family < LETTERS {
+        t = add_lines_in(t, centres, weights, labels, n, letter(family));
+        family += 1;
+    }
+    t
+}
+
+fn add_alarm(text: Text, alarms: u64) -> Text
+    ensures { λ r. ⌜ Added (textOf text) (alarmOf alarms) (textOf r) ⌝ }
+{
+    if alarms == 0 {
+        return add(text, b"the drift alarm did not ring\n");
+    }
+    let rang = add(text, b"the drift alarm rang ");
+    let counted = page::add_number(rang, alarms);
+    if alarms == 1 {
+        return add(counted, b" time\n");
+    }
+    add(counted, b" times\n")
+}
+
+// The families, what is in none, and what the alarm did.
+pub(crate) fn add_words(
+    text: Text,
+    centres: [f64; CENTRES],
+    weights: [f64; MICROS],
+    labels: [i64; MICROS],
+    n: usize,
+    alarms: u64,
+) -> Text
+    requires { ⌜ n ≤ 64 ⌝ }
+    ensures { λ r. ⌜ Added (textOf text) (wordsOf (rowAt centres weights labels) n alarms) (textOf r) ⌝ }
+{
+    let families = add_families(text, centres, weights, labels, n);
+    let weak = add_lines_in(families, centres, weights, labels, n, WEAK);
+    add_alarm(weak, alarms)
+}

@@ -1,0 +1,27 @@
+-- `session` meets its contract. Assumes nothing.
+use Prim.Native.Nat.{ℕ}
+use mathlib.Core.Path.{ap, _∙_}
+use mathlib.Core.List.{List}
+use borrow.Author.Needs.{needs}
+use Rattle.families_lines.specs.Lent.{lengthIn, textIn}
+use Rattle.sample_session.proofs.session.Statement.{statement}
+use Rattle.sample_session.proofs.session.Tie as tie
+
+sample-requires : tie.Need-sample-requires
+sample-requires c κs = search needs
+
+write-requires : tie.Need-write-requires
+write-requires c κs = search needs
+
+same-length : tie.Need-same-length
+same-length c = search needs
+
+returns : tie.Need-returns
+returns c =
+    let lent = c .before .before .before .before .before .before .args .output .now in
+    let e = c .before .before .before .before .sample .ensures in
+    let w = c .before .before .write .ensures in
+    (w .0 ∙ ap (λ (text : List ℕ). lengthIn text lent) e, (w .1 .0 ∙ ap (λ (text : List ℕ). textIn text lent) e, w .1 .1))
+
+pub session-spec : {M : Type 1} → statement M
+session-spec = tie.close (tie.spec sample-requires write-requires same-length returns)
