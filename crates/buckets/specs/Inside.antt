@@ -1,5 +1,5 @@
 -- A search under way. What the contracts of private functions cite; no public contract does.
-use Prim.Native.Nat.{ℕ, _+_, min}
+use Prim.Native.Nat.{ℕ, _+_, _-_, min}
 use mathlib.Core.Bool.{Bool, true, false, cond}
 use Rattle.float.specs.Rounded.{_⊕_, nought}
 use Rattle.buckets.specs.declared.bucket.Bucket.{Bucket}
@@ -8,7 +8,7 @@ use Rattle.buckets.specs.declared.search.Search.{Search}
 use Rattle.buckets.specs.Cut.{cutFails}
 
 abbrev pub searchFrom : CutTest → ℕ → ℕ → Search
-searchFrom c n len = record { test = c; n0 = nought; t0 = nought; at = 0; end = min n len; fails = false }
+searchFrom c n len = record { test = c; n0 = nought; t0 = nought; at = 0; left = min n len; fails = false }
 
 -- the search past the bucket b, where the cut after it fails or not
 abbrev pub pastIf : Bool → Search → Bucket → Search
@@ -16,8 +16,8 @@ pastIf f s b = record {
   test = s .test;
   n0 = s .n0 ⊕ b .size;
   t0 = s .t0 ⊕ b .total;
-  at = cond f (s .end) (s .at + 1);
-  end = s .end;
+  at = cond f (s .at) (s .at + 1);
+  left = cond f 0 (s .left - 1);
   fails = cond f true (s .fails);
 }
 

@@ -1,6 +1,6 @@
 // The search over the buckets, oldest first, for a cut that fails.
 ghost use mathlib.Core.Path.{_≡_};
-ghost use Prim.Native.Nat.{_<_};
+ghost use Prim.Native.Nat.{_+_, _<_, _^_};
 ghost use lib.ListN.{take};
 ghost use Rattle.float.specs.Rounded.{nought};
 ghost use Rattle.buckets.specs.Cut.{someFails};
@@ -11,14 +11,14 @@ use crate::cut::CutTest;
 // Places for buckets. 65,535 values fill at most 80, with 6 in each class; one more is for the newest.
 pub const PLACES: usize = 81;
 
-// A search under way: the buckets before `at` have n0 values with the sum t0, `end` is where it ends,
-// and `fails` says whether a cut failed.
+// A search under way: the buckets before `at` have n0 values with the sum t0, `left` are still to be
+// searched, and `fails` says whether a cut failed.
 struct Search {
     test: CutTest,
     n0: f64,
     t0: f64,
     at: usize,
-    end: usize,
+    left: usize,
     fails: bool,
 }
 
@@ -32,24 +32,25 @@ impl Search {
             n0: 0.0,
             t0: 0.0,
             at: 0,
-            end: lists::cut(n, len),
+            left: lists::cut(n, len),
             fails: false,
         }
     }
 
-    // Past the bucket b; a cut that fails after it ends the search.
+    // Past the bucket b; where the cut after it fails, nothing is left to search.
     fn past(mut self, b: Bucket) -> Self
-        requires { ⌜ self .at < self .end ⌝ }
+        requires { ⌜ (0 < self .left) × (self .at + self .left < 2 ^ 64) ⌝ }
         ensures { λ r. ⌜ r ≡ pastBucket self b ⌝ }
     {
         let test = self.test;
         self.n0 = self.n0 + b.size;
         self.t0 = self.t0 + b.total;
         if test.fails(self.n0, self.t0) {
-            self.at = self.end;
+            self.left = 0;
             self.fails = true;
         } else {
             self.at = self.at + 1;
+            self.left = self.left - 1;
         }
         self
     }
@@ -60,7 +61,7 @@ pub fn some_fails(test: CutTest, buckets: &[Bucket], n: usize) -> bool
     ensures { λ r. ⌜ r ≡ someFails test nought nought (take n (now (buckets .entry))) ⌝ }
 {
     let mut s = Search::new(test, n, buckets.len());
-    while s.at < s.end {
+    while 0 < s.left {
         s = s.past(buckets[s.at]);
     }
     s.fails

@@ -3,9 +3,9 @@
 use mathlib.Core.Path.{_≡_, refl, sym, subst, ap, _∙_}
 use mathlib.Core.Bool.{Bool, true, false, not}
 use mathlib.Core.WellFounded.{WellFounded, InvImage·wf}
-use Prim.Native.Nat.{ℕ, _*_, _-_, _≤_, _<_, _^_}
+use Prim.Native.Nat.{ℕ, _+_, _*_, _≤_, _<_, _^_}
 use native.Mathlib.Omega.{arith}
-use native.Mathlib.Nat.{lt-of-lt-of-le, min-le-right}
+use native.Mathlib.Nat.{le-trans, lt-of-le-of-lt, lt-of-lt-of-le, min-le-right}
 use mathlib.Core.List.{[], _∷_, List}
 use lib.Dec.{T, ltb, ltb→lt, nltb→le}
 use lib.ListN.{length, getD, take}
@@ -52,7 +52,7 @@ use Rattle.buckets.specs.declared.cut.CutTest.{CutTest}
 use Rattle.buckets.specs.declared.search.Search.{Search}
 use Rattle.buckets.specs.Cut.{someFails}
 use Rattle.buckets.specs.Inside.{searchFrom, pastBucket}
-use Rattle.buckets.proofs.Walked.{foundIn, new-finds, past-finds, end-finds, comes-nearer}
+use Rattle.buckets.proofs.Walked.{foundIn, new-finds, past-finds, end-finds, past-fewer, past-within}
 use Rattle.buckets.proofs.search.Search as S
 use Rattle.buckets.proofs.search.Search.Laws as S′
 use Rattle.buckets.proofs.cut.CutTest as T
@@ -149,31 +149,34 @@ module _ {M : Type 1} (𝓤 : URA M) (H : Heap 𝓤) (A : Atoms 𝓤) (W : Given
   abbrev passed : Search → Bucket → Past 𝓤 H A at-mem run .Ghost
   passed s e = ((tt, tt, tt, (s, (e, tt)), (svals s, (bvals e, tt))), tt)
 
-  passes-on : (s : Search) (e : Bucket) → Is S.the-row s (svals s) → Is B.the-row e (bvals e) → s .at < s .end → ent 𝓤 (emp 𝓤) (Past 𝓤 H A at-mem run .pre (passed s e))
+  passes-on : (s : Search) (e : Bucket) → Is S.the-row s (svals s) → Is B.the-row e (bvals e) → (0 < s .left) × (s .at + s .left < 2 ^ 64) → ent 𝓤 (emp 𝓤) (Past 𝓤 H A at-mem run .pre (passed s e))
   passes-on s e is-s is-e small =
       qed W [] ∵ says ! small $ nothing ! $
       owned ! B.the-row (Is B.the-row) (LL.makes B.the-type B′.the-plain 𝓤 H A) e (bvals e) is-e $ fjoin ! $ owned ! S.the-row (Is S.the-row) (LL.makes S.the-type S′.the-plain 𝓤 H A) s (svals s) is-s $ fjoin ! $ nothing ! $ done !
 
   -- the loop's variant: the search, and what the walk keeps of it
   abbrev Kept : Type 0
-  Kept = (s : Search) × (Is S.the-row s (svals s) × ((s .end ≤ length ys) × (foundIn s ys ≡ someFails c nought nought (take n ys))))
+  Kept = (s : Search) × (Is S.the-row s (svals s) × ((s .at + s .left ≤ length ys) × (foundIn s ys ≡ someFails c nought nought (take n ys))))
 
   abbrev Nearer : Kept → Kept → Type 0
-  Nearer j i = j .0 .end - j .0 .at < i .0 .end - i .0 .at
+  Nearer j i = j .0 .left < i .0 .left
 
   Nearer-wf : WellFounded Nearer
-  Nearer-wf = InvImage·wf (λ (i : Kept). i .0 .end - i .0 .at) (Nat·lt-wfRel .wf)
+  Nearer-wf = InvImage·wf (λ (i : Kept). i .0 .left) (Nat·lt-wfRel .wf)
 
   -- where the search's place lies, in bytes
   bytes-fit : (i : ℕ) → i < length ys → i * 24 < 2 ^ 64
   bytes-fit i l = let g : length ys * 24 < 2 ^ 63 = gn .1 in omega arith
 
-  -- the facts of a new search, and of one that has passed a bucket
-  starts : (s : Search) → s ≡ searchFrom c n (length ys) → (s .end ≤ length ys) × (foundIn s ys ≡ someFails c nought nought (take n ys))
-  starts s e = (subst (λ (z : Search). z .end ≤ length ys) (sym e) (min-le-right n (length ys)), ap (λ (z : Search). foundIn z ys) e ∙ new-finds c n ys)
+  reaches : (i m : ℕ) → 0 < m → i < i + m
+  reaches i m h = omega arith
 
-  goes-on : (i : Kept) → i .0 .at < i .0 .end → (r : Search) → r ≡ pastBucket (i .0) (getD ys (i .0 .at) none) → (r .end ≤ length ys) × (foundIn r ys ≡ someFails c nought nought (take n ys))
-  goes-on i h r e = (subst (λ (z : Search). z .end ≤ length ys) (sym e) (i .1 .1 .0), ap (λ (z : Search). foundIn z ys) e ∙ past-finds (i .0) ys none h (i .1 .1 .0) ∙ i .1 .1 .1)
+  -- the facts of a new search, and of one that has passed a bucket
+  starts : (s : Search) → s ≡ searchFrom c n (length ys) → (s .at + s .left ≤ length ys) × (foundIn s ys ≡ someFails c nought nought (take n ys))
+  starts s e = (subst (λ (z : Search). z .at + z .left ≤ length ys) (sym e) (omega (arith, min-le-right n (length ys))), ap (λ (z : Search). foundIn z ys) e ∙ new-finds c n ys)
+
+  goes-on : (i : Kept) → 0 < i .0 .left → (r : Search) → r ≡ pastBucket (i .0) (getD ys (i .0 .at) none) → (r .at + r .left ≤ length ys) × (foundIn r ys ≡ someFails c nought nought (take n ys))
+  goes-on i h r e = (subst (λ (z : Search). z .at + z .left ≤ length ys) (sym e) (le-trans (past-within (i .0) (getD ys (i .0 .at) none) h) (i .1 .1 .0)), ap (λ (z : Search). foundIn z ys) e ∙ past-finds (i .0) ys none h (i .1 .1 .0) ∙ i .1 .1 .1)
 
   module _ (𝓣 : Tables 𝓤 H) (known : Triple 𝓤 (𝓣 .C #past) (Past 𝓤 H A at-mem run)) (l₀ l₁ l₂ l₃ l₄ l₅ l₆ l₇ l₈ l₉ : ℕ) where
     abbrev C : Calls 𝓤 H
@@ -196,12 +199,12 @@ module _ {M : Type 1} (𝓤 : URA M) (H : Heap 𝓤) (A : Atoms 𝓤) (W : Given
     abbrev Turned : Kept → Out → SProp 𝓤
     Turned i = afterTurn 𝓤 H (Below 𝓤 H A Nearer At i) (afterBlock 𝓤 H (afterSeq 𝓤 H (Wp 𝓤 H C Λ En mir.t-4 (atReturn 𝓤 H En Post)) (atReturn 𝓤 H En Post)))
 
-    turn : (i : Kept) (t : Bool) → ltb (i .0 .at) (i .0 .end) ≡ t → Sq W (At i) (runs C Λ En mir.turn-1 (anyQ (Turned i)))
+    turn : (i : Kept) (t : Bool) → ltb 0 (i .0 .left) ≡ t → Sq W (At i) (runs C Λ En mir.turn-1 (anyQ (Turned i)))
     unfolding afterTurn
     turn i true e =
-        let small : i .0 .at < i .0 .end = ltb→lt (i .0 .at) (i .0 .end) (subst T (sym e) tt) in
-        let within : i .0 .at < length ys = lt-of-lt-of-le small (i .1 .1 .0) in
-        assigns ! (bin ! (load ! (from ! (fld ! refl (stop !))) (look-in ! 13 (sub ! 3 refl (whole !)))) (load ! (from ! (fld ! refl (stop !))) (look-in ! 13 (sub ! 4 refl (whole !)))) tt) (from ! (stop !)) (init ! 9 refl (tt, tt)) $
+        let some-left : 0 < i .0 .left = ltb→lt 0 (i .0 .left) (subst T (sym e) tt) in
+        let within : i .0 .at < length ys = lt-of-lt-of-le (reaches (i .0 .at) (i .0 .left) some-left) (i .1 .1 .0) in
+        assigns ! (bin ! (lit ! tt) (load ! (from ! (fld ! refl (stop !))) (look-in ! 13 (sub ! 4 refl (whole !)))) tt) (from ! (stop !)) (init ! 9 refl (tt, tt)) $
         rewrite ! 9 (λ (t : Bool). ‵ (fat fullShare tyBool l₆ 0 (vbool t))) e refl $ stays ! (load ! (from ! (stop !)) (look ! 9 refl)) $
         assigns ! (bin ! (load ! (from ! (fld ! refl (stop !))) (look-in ! 13 (sub ! 3 refl (whole !)))) (lit ! tt) (record { fits = bytes-fit (i .0 .at) within })) (from ! (stop !)) (init ! 7 refl (tt, record { fits = bytes-fit (i .0 .at) within })) $
         assigns ! (bin ! (load ! (from ! (fld ! refl (stop !))) (look-in ! 17 (sub ! 0 refl (whole !)))) (load ! (from ! (stop !)) (look ! 7 refl)) tt) (from ! (stop !)) (init ! 5 refl (tt, tt)) $
@@ -211,7 +214,7 @@ module _ {M : Type 1} (𝓤 : URA M) (H : Heap 𝓤) (A : Atoms 𝓤) (W : Given
         -- [the bucket; what it owns; the others; the open borrow; the fractured borrow; what the slice owns; _9; …]
         assigns ! (of-opd ! (load ! (from ! (hop ! (look ! 8 refl) (stop !))) (look-raw ! 0 refl))) (from ! (stop !)) (init ! 6 refl (LL.lawful B.the-type B′.the-laws 𝓤 H A W .typed (getD ys (i .0 .at) none) _ g .0)) $
         elem-back ! B.the-row q′ ys (i .0 .at) none (bvals (getD ys (i .0 .at) none)) b o within $ shuts-slice ! tt B.the-row q′ ys b o $
-        use0 W (raw (Past 𝓤 H A at-mem run .pre (passed (i .0) (getD ys (i .0 .at) none)))) (passes-on (i .0) (getD ys (i .0 .at) none) (i .1 .0) g small) $
+        use0 W (raw (Past 𝓤 H A at-mem run .pre (passed (i .0) (getD ys (i .0 .at) none)))) (passes-on (i .0) (getD ys (i .0 .at) none) (i .1 .0) g (some-left, lt-of-le-of-lt (i .1 .1 .0) (gn .0))) $
         calls-at-last ! (fmOf 𝓤 H (W .laws) 𝓣) (Past 𝓤 H A at-mem run) known (passed (i .0) (getD ys (i .0 .at) none)) (and-then ! (load ! (from ! (stop !)) (look ! 14 refl)) (and-then ! (load ! (from ! (stop !)) (look ! 4 refl)) (no-more !))) (λ v.
         use1 W (later (some (λ (r : Search). (‵ ftrue ⊛ ‵ (S.the-row .own r (v ∷ []))) ⊛ raw (ensured 𝓤 H A past.ended (past.clauses 𝓤 H A at-mem run) tt (i .0, (getD ys (i .0 .at) none, tt)) tt r)))) (id⊢ 𝓤 _) $ await ! tt $ pick ! (λ r.
         split ! $ move ! (1 ∷ []) $ use1 W (raw (fact 𝓤 (r ≡ pastBucket (i .0) (getD ys (i .0 .at) none)))) (past-of 𝓤 H A at-mem run (i .0) (getD ys (i .0 .at) none) r) $
@@ -220,19 +223,19 @@ module _ {M : Type 1} (𝓤 : URA M) (H : Heap 𝓤) (A : Atoms 𝓤) (W : Given
         land-last ! (from ! (stop !)) (store ! 14 refl (LL.lawful S.the-type S′.the-laws 𝓤 H A W .typed r _ is₀ .0)) $
         rewrite ! 14 (λ (us : List Val). ‵ (fat fullShare S′.mir l₄ 0 (only us))) (LL.tells S.the-type S′.the-laws r (v ∷ []) is₀) refl $ drop ! $
         forget ! 3 refl $ forget ! 5 refl $ forget ! 7 refl $ forget ! 9 refl $
-        again ! Nearer At i (r, (subst (Is S.the-row r) (LL.tells S.the-type S′.the-laws r (v ∷ []) is₀) is₀, goes-on i small r r-is))
-        (subst (λ (s : Search). s .end - s .at < i .0 .end - i .0 .at) (sym r-is) (comes-nearer (i .0) (getD ys (i .0 .at) none) small))))))))
+        again ! Nearer At i (r, (subst (Is S.the-row r) (LL.tells S.the-type S′.the-laws r (v ∷ []) is₀) is₀, goes-on i some-left r r-is))
+        (subst (λ (s : Search). s .left < i .0 .left) (sym r-is) (past-fewer (i .0) (getD ys (i .0 .at) none) some-left))))))))
     turn i false e =
-        assigns ! (bin ! (load ! (from ! (fld ! refl (stop !))) (look-in ! 13 (sub ! 3 refl (whole !)))) (load ! (from ! (fld ! refl (stop !))) (look-in ! 13 (sub ! 4 refl (whole !)))) tt) (from ! (stop !)) (init ! 9 refl (tt, tt)) $
+        assigns ! (bin ! (lit ! tt) (load ! (from ! (fld ! refl (stop !))) (look-in ! 13 (sub ! 4 refl (whole !)))) tt) (from ! (stop !)) (init ! 9 refl (tt, tt)) $
         rewrite ! 9 (λ (t : Bool). ‵ (fat fullShare tyBool l₆ 0 (vbool t))) e refl $ leaves-loop ! (load ! (from ! (stop !)) (look ! 9 refl)) $ exec ! C Λ En mir.t-4 (atRet En Post) $
         assigns ! (of-opd ! (load ! (from ! (fld ! refl (stop !))) (look-in ! 13 (sub ! 5 refl (whole !))))) (from ! (stop !)) (init ! 21 refl (tt, tt)) $
         returns ! (look ! 21 refl) $ forget ! 9 refl $ forget ! 11 refl $ forget ! 13 refl $ forget ! 15 refl $ forget ! 17 refl $ forget ! 19 refl $ forget ! 21 refl $
         move ! (21 ∷ 22 ∷ []) $ free1 ! $ move ! (19 ∷ 20 ∷ []) $ free1 ! $ move ! (17 ∷ 18 ∷ []) $ free1 ! $ move ! (15 ∷ 16 ∷ []) $ free1 ! $ move ! (13 ∷ 14 ∷ []) $ free1 ! $ move ! (11 ∷ 12 ∷ []) $ free1 ! $
         move ! (9 ∷ 10 ∷ []) $ free1 ! $ move ! (7 ∷ 8 ∷ []) $ free1 ! $ move ! (5 ∷ 6 ∷ []) $ free1 ! $ move ! (3 ∷ 4 ∷ []) $ free1 ! $ free0 ! $
-        keep ! (0 ∷ 2 ∷ []) $ by ! (exits (i .0 .fails) (sym (end-finds (i .0) ys (nltb→le (i .0 .at) (i .0 .end) (subst (λ (t : Bool). T (not t)) (sym e) tt))) ∙ i .1 .1 .1))
+        keep ! (0 ∷ 2 ∷ []) $ by ! (exits (i .0 .fails) (sym (end-finds (i .0) ys (nltb→le 0 (i .0 .left) (subst (λ (t : Bool). T (not t)) (sym e) tt))) ∙ i .1 .1 .1))
 
     looped : (i : Kept) → Sq W (At i) (runs C Λ En mir.t-3 (atRet En Post))
-    looped i = first ! $ blocks ! $ loops ! 𝓣 Nearer Nearer-wf At (λ i. turn i (ltb (i .0 .at) (i .0 .end)) refl) i
+    looped i = first ! $ blocks ! $ loops ! 𝓣 Nearer Nearer-wf At (λ i. turn i (ltb 0 (i .0 .left)) refl) i
 
   walk : (𝓣 : Tables 𝓤 H) → Triple 𝓤 (𝓣 .C #new) (New 𝓤 H A at-mem run) → Triple 𝓤 (𝓣 .C #past) (Past 𝓤 H A at-mem run) → ent 𝓤 (onEntry 𝓤 H A some′.signature (κ, tt) (q, tt) (c, (xs, (n, tt))) at) (WpFn 𝓤 H (𝓣 .C) (𝓣 .Λ) code.function (tval c ∷ sliceVal (b, o) (length ys) ∷ vint w64 n ∷ []) Post)
   walk 𝓣 known-new known =

@@ -11,6 +11,9 @@ fails-requires c κs = search needs
 add-self : tie.Need-add-self
 add-self c = search needs
 
+sub-self : tie.Need-sub-self
+sub-self c = search needs
+
 returns : tie.Need-returns
 returns c =
     let a = c .before .before .before .before .before .before .before .args in
@@ -18,8 +21,9 @@ returns c =
 
 returns-2 : tie.Need-returns-2
 returns-2 c =
-    let a = c .before .before .before .before .before .before .before .before .args in
-    ap (λ (f : Bool). pastIf f (a .self) (a .b)) (sym (c .before .if1 .left) ∙ c .before .before .fails .ensures)
+    let k = c .before .before in
+    let a = k .before .before .before .before .before .before .before .args in
+    ap (λ (f : Bool). pastIf f (a .self) (a .b)) (sym (k .if1 .left) ∙ k .before .fails .ensures)
 
 pub past-spec : {M : Type 1} → statement M
-past-spec = tie.close (tie.spec fails-requires add-self returns returns-2)
+past-spec = tie.close (tie.spec fails-requires add-self sub-self returns returns-2)
