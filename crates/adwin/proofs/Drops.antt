@@ -6,14 +6,15 @@ use mathlib.Core.List.{List, [], _∷_}
 use native.Mathlib.Omega.{arith}
 use lib.ListN.{length, take, drop, getD}
 use lib.Ieee.{Float, le}
-use Rattle.adwin.specs.declared.bucket.Bucket.{Bucket}
+use Rattle.buckets.specs.declared.bucket.Bucket.{Bucket}
 use Rattle.adwin.specs.declared.Adwin.{Adwin}
 use Rattle.adwin.specs.declared.Verdict.{Verdict}
 use Rattle.adwin.specs.declared.Verdict.the-variants.{Quiet, Alarm}
 use Rattle.float.specs.Rounded.{_⊖_, _⊗_, nought, two}
+use Rattle.buckets.specs.Cut.{someFails}
 use Rattle.adwin.specs.Settings.{places, side}
 use Rattle.adwin.specs.Buckets.{Classed}
-use Rattle.adwin.specs.Cut.{Sums, gOf, vOf, someFails, mustDrop, varianceWithout, sumsWithout, searchOf, bucketsOf, alsoDropped, allKept}
+use Rattle.adwin.specs.Cut.{Sums, gOf, testOf, mustDrop, varianceWithout, sumsWithout, searchOf, bucketsOf, alsoDropped, allKept}
 use Rattle.adwin.specs.Window.{Window, Outcome, shrunk, outcome, quiet}
 use Rattle.adwin.specs.View.{classed, heldOf, sumsOf, view, rings, numberOf, outcomeWith}
 use Rattle.lists.specs.Retain.{without}
@@ -59,11 +60,11 @@ dropped-is a d v m s q b k h e c l =
 -- ---- the search
 pub must-is :
     (d : Float) (s : Sums) (g : Float) (bs : List Bucket) (r : Bool) → le (two ⊗ side) (s .width) ≡ true → g ≡ gOf d (s .width) →
-    r ≡ someFails (s .width) (s .total) (vOf s) g nought nought bs → r ≡ mustDrop d s bs
+    r ≡ someFails (testOf s g) nought nought bs → r ≡ mustDrop d s bs
 unfolding mustDrop
 must-is d s g bs r h e q =
-    q ∙ ap (λ (x : Float). someFails (s .width) (s .total) (vOf s) x nought nought bs) e
-    ∙ ap (λ (t : Bool). cond t (someFails (s .width) (s .total) (vOf s) (gOf d (s .width)) nought nought bs) false) (sym h)
+    q ∙ ap (λ (x : Float). someFails (testOf s x) nought nought bs) e
+    ∙ ap (λ (t : Bool). cond t (someFails (testOf s (gOf d (s .width))) nought nought bs) false) (sym h)
 
 none-drop : (d : Float) (s : Sums) → mustDrop d s [] ≡ false
 unfolding mustDrop

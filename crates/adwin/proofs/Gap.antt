@@ -4,7 +4,7 @@ use mathlib.Core.Path.{_≡_, refl, ap, sym, _∙_}
 use mathlib.Core.List.{List, [], _++_}
 use native.Mathlib.Omega.{arith}
 use lib.ListN.{length, take, getD, set, length-set}
-use Rattle.adwin.specs.declared.bucket.Bucket.{Bucket}
+use Rattle.buckets.specs.declared.bucket.Bucket.{Bucket}
 use Rattle.adwin.specs.declared.Adwin.{Adwin}
 use Rattle.adwin.specs.Settings.{places}
 use Rattle.adwin.specs.Buckets.{Classed}

@@ -9,7 +9,8 @@ use Rattle.float.specs.Rounded.{_⊕_, one}
 use Rattle.float.specs.Order.{isFinite}
 use Rattle.adwin.specs.declared.Adwin.{Adwin}
 use Rattle.adwin.specs.Settings.{interval}
-use Rattle.adwin.specs.Buckets.{singleOf, pushOf}
+use Rattle.buckets.specs.Bucket.{singleOf}
+use Rattle.adwin.specs.Buckets.{pushOf}
 use Rattle.adwin.specs.Window.{Window, quiet, hasRoom, due, varianceWith, grown, shrunk, updateOf}
 use Rattle.adwin.specs.View.{heldOf, view}
 use Rattle.adwin.specs.Inside.{withHeld}

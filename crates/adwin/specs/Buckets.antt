@@ -3,21 +3,9 @@ use Prim.Native.Nat.{ℕ, _+_, min}
 use mathlib.Core.Bool.{cond}
 use mathlib.Core.List.{List, [], _∷_, reverse}
 use lib.Dec.{eqb, ltb}
-use lib.Ieee.{Float}
-use Rattle.adwin.specs.declared.bucket.Bucket.{Bucket}
-use Rattle.float.specs.Rounded.{_⊕_, _⊖_, _⊗_, _⊘_, nought, one}
+use Rattle.buckets.specs.declared.bucket.Bucket.{Bucket}
+use Rattle.buckets.specs.Bucket.{mergedOf}
 use Rattle.adwin.specs.Settings.{cap}
-
--- the Rust's `merged`: an older bucket with a newer one
-abbrev pub mergedOf : Bucket → Bucket → Bucket
-mergedOf older newer =
-    let size = older .size ⊕ newer .size in
-    let gap = older .total ⊘ older .size ⊖ newer .total ⊘ newer .size in
-    record {
-      size = size;
-      total = older .total ⊕ newer .total;
-      variance = older .variance ⊕ newer .variance ⊕ older .size ⊗ newer .size ⊘ size ⊗ gap ⊗ gap;
-    }
 
 pub record Classed : Type 0 where
   pub class : ℕ
@@ -38,10 +26,6 @@ carry k y (x ∷ older) =
     cond (eqb (x .class) (y .class))
     (cond (ltb cap (k + 2)) (carry 0 (pairOf x y) older) (y ∷ carry (k + 1) x older))
     (y ∷ x ∷ older)
-
--- a value as a bucket
-abbrev pub singleOf : Float → Bucket
-singleOf x = record { size = one; total = x; variance = nought }
 
 -- the buckets after one more
 unfoldable pub pushOf : List Classed → Bucket → List Classed

@@ -14,7 +14,8 @@ use borrow.Author.Tests.{ltb-true, ltb-false, eqb-true, eqb-false}
 use Rattle.float.specs.Rounded.{_⊕_, whole}
 use Rattle.float.specs.Whole.{add-whole}
 use Rattle.adwin.specs.Settings.{cap, limit}
-use Rattle.adwin.specs.Buckets.{Classed, carry, pushOf, pairOf, nextClass, singleOf}
+use Rattle.buckets.specs.Bucket.{singleOf}
+use Rattle.adwin.specs.Buckets.{Classed, carry, pushOf, pairOf, nextClass}
 use Rattle.adwin.specs.History.{valuesIn, Sized}
 use Rattle.adwin.specs.Stacked.{Stacked, none, same, next, values-reverse, sized-reverse}
 

@@ -1,26 +1,19 @@
 // ADWIN: a window over a stream of numbers that tells when they changed (Bifet & Gavaldà, SDM 2007).
-mod bucket;
-mod cut;
-
-pub use bucket::Bucket;
+pub use buckets::Bucket;
+pub use buckets::PLACES;
 ghost use mathlib.Core.Path.{_≡_};
 ghost use mathlib.Core.Bool.{_&&_, false};
 ghost use Prim.Native.Nat.{_+_, _<_, _≤_};
 ghost use lib.Dec.{ltb};
-ghost use lib.ListN.{take};
-ghost use Rattle.float.specs.Rounded.{nought};
 ghost use Rattle.float.specs.Order.{isFinite};
 ghost use Rattle.adwin.specs.Settings.{limit, places};
-ghost use Rattle.adwin.specs.Buckets.{pushOf};
-ghost use Rattle.adwin.specs.Cut.{bucketsOf, mustDrop, someFails, varianceWithout};
+ghost use Rattle.adwin.specs.Buckets.{nextClass, pushOf};
+ghost use Rattle.adwin.specs.Cut.{bucketsOf, mustDrop, varianceWithout};
 ghost use Rattle.adwin.specs.Window.{clamped, meanOf, newOf, shrunk, updateOf, varianceOf, varianceWith, widthOf};
 ghost use Rattle.adwin.specs.View.{heldOf, numberOf, rings, sumsOf, told, view};
 ghost use Rattle.adwin.specs.Inside.{oldestDropped, withHeld};
-use bucket::next_class;
-use cut::cut_fails;
-
-// Places for buckets. 65,535 values fill at most 80, with 6 in each class; one more is for the newest.
-pub const PLACES: usize = 81;
+use buckets::CutTest;
+use buckets::some_fails_in;
 
 // The window. The buckets are the first `count` of the array, oldest first, each with its class:
 // a bucket of class c has 2^c values.
@@ -113,24 +106,11 @@ fn has_room(taken: u64, count: usize) -> bool
     }
 }
 
-// Whether a cut fails after one of the first n buckets.
-fn some_fails(buckets: [Bucket; PLACES], n: usize, width: f64, total: f64, v: f64, g: f64) -> bool
-    requires { ⌜ n ≤ places ⌝ }
-    ensures { λ r. ⌜ r ≡ someFails width total v g nought nought (take n buckets) ⌝ }
+// The class above c. A byte ends at 255, which no window that started empty comes near.
+fn next_class(c: u8) -> u8
+    ensures { λ r. ⌜ r ≡ nextClass c ⌝ }
 {
-    let mut n0 = 0.0;
-    let mut t0 = 0.0;
-    let mut i = 0;
-    while i < n {
-        let b = buckets[i];
-        n0 = n0 + b.size;
-        t0 = t0 + b.total;
-        if cut_fails(width, total, v, g, n0, t0) {
-            return true;
-        }
-        i += 1;
-    }
-    false
+    if c < 255 { c + 1 } else { 255 }
 }
 
 impl Adwin {
@@ -270,20 +250,19 @@ impl Adwin {
 
     // Whether the window is wide enough for a cut, and one fails.
     fn must_drop(self) -> bool
-        requires { ⌜ self .count ≤ places ⌝ }
         ensures { λ r. ⌜ r ≡ mustDrop (self .delta) (sumsOf self) (bucketsOf (heldOf self)) ⌝ }
     {
         if self.width >= 2.0 * Adwin::SIDE {
             let g = float::ln(2.0 * float::max(float::ln(self.width), 1.0) / self.delta);
-            let buckets = self.buckets;
-            some_fails(
-                buckets,
-                self.count,
-                self.width,
-                self.total,
-                self.variance / self.width,
+            let test = CutTest {
+                side: Adwin::SIDE,
+                width: self.width,
+                total: self.total,
+                v: self.variance / self.width,
                 g,
-            )
+            };
+            let buckets = self.buckets;
+            some_fails_in(test, buckets, self.count)
         } else {
             false
         }

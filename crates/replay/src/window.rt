@@ -8,6 +8,7 @@ use crate::output::put_number;
 use crate::output::say;
 use adwin::Adwin;
 use adwin::Verdict;
+use lent_window::updated;
 use words::double_of;
 
 // The current window, once one is open.
@@ -21,11 +22,11 @@ pub fn is_meant(op: u64) -> bool {
     10 <= op && op <= 12
 }
 
-// The window with one value more; the verdict is printed.
+// The window with one value more; the verdict is printed. The streams update theirs by value, this one is lent.
 fn update(line: &mut [u8], window: Adwin, value: f64) -> Adwin {
-    let updated = window.update(value);
-    let next = updated.window;
-    let answer = updated.answer;
+    let after = updated(window, value);
+    let next = after.window;
+    let answer = after.answer;
     match answer {
         Verdict::Quiet => {
             say(line, b"quiet");

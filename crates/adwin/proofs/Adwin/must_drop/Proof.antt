@@ -23,8 +23,8 @@ max-requires c κs = search needs
 ln-requires-2 : tie.Need-ln-requires-2
 ln-requires-2 c κs = search needs
 
-some-fails-requires : tie.Need-some-fails-requires
-some-fails-requires c κs = search needs
+some-fails-in-requires : tie.Need-some-fails-in-requires
+some-fails-in-requires c κs = search needs
 
 returns : tie.Need-returns
 returns c =
@@ -35,7 +35,7 @@ returns c =
     let b : length (a .buckets) ≡ places = sym (length-map (a .buckets) _) ∙ e .good .0 .1 .1 .1 .0 .1 .0 .1 in
     let k : length (a .classes) ≡ places = sym (length-map (a .classes) _) ∙ e .good .0 .1 .1 .1 .1 .0 .1 .0 .1 in
     let g : q .ln2 .result ≡ gOf (a .delta) (a .width) = q .ln2 .ensures ∙ ap (λ (x : Float). lnOf (two ⊗ x ⊘ a .delta)) (m .max .ensures ∙ ap (λ (x : Float). larger x one) (m .before .ln .ensures)) in
-    must-is (a .delta) (sumsOf a) (q .ln2 .result) (take (a .count) (a .buckets)) (c .some-fails .result) (m .before .before .if1 .taken) g (c .some-fails .ensures)
+    must-is (a .delta) (sumsOf a) (q .ln2 .result) (take (a .count) (a .buckets)) (c .some-fails-in .result) (m .before .before .if1 .taken) g (c .some-fails-in .ensures)
     ∙ ap (mustDrop (a .delta) (sumsOf a)) (sym (buckets-are (a .count) (a .classes) (a .buckets) (k ∙ sym b)))
 
 returns-2 : tie.Need-returns-2
@@ -45,4 +45,4 @@ returns-2 c = rw (c .if1 .left)
 pub must-drop-spec : {M : Type 1} → statement M
 must-drop-spec =
     tie.close
-    (tie.spec ln-requires max-requires ln-requires-2 some-fails-requires returns returns-2)
+    (tie.spec ln-requires max-requires ln-requires-2 some-fails-in-requires returns returns-2)

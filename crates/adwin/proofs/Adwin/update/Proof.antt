@@ -7,7 +7,7 @@ use Rattle.adwin.specs.Buckets.{pushOf}
 use Rattle.adwin.specs.Window.{Window, Outcome, hasRoom, shrunk}
 use Rattle.adwin.specs.View.{heldOf, view}
 use Rattle.adwin.specs.Inside.{withHeld}
-use Rattle.adwin.specs.declared.bucket.Bucket.{Bucket}
+use Rattle.buckets.specs.declared.bucket.Bucket.{Bucket}
 use Rattle.float.specs.Order.{isFinite}
 use borrow.Author.Tests.{not-true, not-false}
 use lib.ListN.{length-map}

@@ -1,5 +1,5 @@
-use Rattle.adwin.proofs.cut.apart.Statement.{statement}
-use Rattle.adwin.proofs.cut.apart.Tie as tie
+use Rattle.buckets.proofs.cut.apart.Statement.{statement}
+use Rattle.buckets.proofs.cut.apart.Tie as tie
 
 returns : tie.Need-returns
 returns c = rw (c .if1 .taken)

@@ -1,6 +1,6 @@
 // A bucket of the window: some of its values, next to each other, known by three doubles.
 ghost use mathlib.Core.Path.{_≡_};
-ghost use Rattle.adwin.specs.Buckets.{mergedOf, nextClass, singleOf};
+ghost use Rattle.buckets.specs.Bucket.{mergedOf, singleOf};
 
 // `size` values with the sum `total`; `variance` is the sum of their squared deviations from their mean.
 pub struct Bucket {
@@ -33,11 +33,4 @@ impl Bucket {
             variance: self.variance + newer.variance + self.size * newer.size / size * gap * gap,
         }
     }
-}
-
-// The class above c. A byte ends at 255, which no window that started empty comes near.
-pub fn next_class(c: u8) -> u8
-    ensures { λ r. ⌜ r ≡ nextClass c ⌝ }
-{
-    if c < 255 { c + 1 } else { 255 }
 }
