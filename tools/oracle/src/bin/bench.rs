@@ -1,6 +1,7 @@
 //! bench [RUNS] [WORD]: times whole sessions of the Rust and, built with the feature `product`, of the product too;
 //! best and median of RUNS (default 7), only the sessions whose name has WORD. The two must give the same answer.
 //! Time is the thread's own, so that other work on the machine counts for little.
+//! bench stack: the stack that each of the product's sessions needs, its stream and the calls below it.
 use oracle::sessions;
 use std::hint::black_box;
 
@@ -153,8 +154,52 @@ fn run(runs: usize, word: &str) {
     }
 }
 
+/// The stack of a session: each trial is a process of its own, since one that runs out of stack is killed.
+#[cfg(feature = "product")]
+mod stack {
+    use super::{Case, cases};
+    use std::process::{Command, Stdio};
+
+    const STEP: usize = 4 << 10;
+
+    /// Inserts of a trial: every session has had a cleanup by then.
+    const FEW: u64 = 2_000;
+
+    /// The session of number i on that much stack.
+    pub fn trial(i: usize, bytes: usize) {
+        let Case { product, kind, n, .. } = cases()[i];
+        let small = std::thread::Builder::new().stack_size(bytes);
+        small.spawn(move || product(kind, n.min(FEW))).expect("a thread").join().expect("the session ends");
+    }
+
+    fn ends(i: usize, bytes: usize) -> bool {
+        let exe = std::env::current_exe().expect("this program");
+        let mut child = Command::new(exe);
+        child.args(["stack-on", &i.to_string(), &bytes.to_string()]).stderr(Stdio::null());
+        child.status().expect("a process").success()
+    }
+
+    /// The least number of steps on which each session ends.
+    pub fn print() {
+        for (i, c) in cases().iter().enumerate() {
+            let (mut short, mut enough) = (4, 16 << 10);
+            while enough - short > 1 {
+                let middle = (short + enough) / 2;
+                *if ends(i, middle * STEP) { &mut enough } else { &mut short } = middle;
+            }
+            println!("{:<50} {:>6} KiB of stack", c.name, enough * STEP >> 10);
+        }
+    }
+}
+
 fn main() {
     let args: Vec<String> = std::env::args().skip(1).collect();
+    #[cfg(feature = "product")]
+    match args.iter().map(String::as_str).collect::<Vec<_>>()[..] {
+        ["stack"] => return stack::print(),
+        ["stack-on", i, bytes] => return stack::trial(i.parse().expect("a number"), bytes.parse().expect("a number")),
+        _ => {}
+    }
     let runs = args.first().and_then(|a| a.parse().ok()).unwrap_or(7).max(1);
     let word = args.into_iter().find(|a| a.parse::<usize>().is_err()).unwrap_or_default();
     // The product keeps whole streams on the stack.
