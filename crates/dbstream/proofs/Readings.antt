@@ -2,7 +2,7 @@
 use Prim.Native.Nat.{ℕ}
 use mathlib.Core.Path.{_≡_, refl, sym, ap, ap₂, _∙_}
 use mathlib.Core.Logic.{_≢_, _⊎_, ⊎-elim}
-use mathlib.Core.List.{List, map}
+use mathlib.Core.List.{List, [], _∷_, map}
 use mathlib.Core.Bool.{Bool, true, false, not, _&&_}
 use native.Mathlib.Omega.{arith}
 use borrow.Author.Tests.{eq-eqb, ne-eqb}
@@ -15,8 +15,7 @@ use Rattle.feature.specs.declared.spherical.Spherical.{Spherical}
 use Rattle.feature.specs.Feature.{within}
 use Rattle.model.specs.declared.micro.MicroId.{MicroId}
 use Rattle.model.specs.declared.link.Link.{Link}
-use Rattle.model.specs.declared.answers.Prediction.the-variants.{Label, Shape}
-use Rattle.model.specs.declared.answers.Connectivity.the-variants.{Density, NotLive}
+use Rattle.model.specs.Answers.{gives, refuses}
 use Rattle.model.specs.Fading.{distanceTo}
 use Rattle.model.specs.DbState.{State}
 use Rattle.model.specs.DbInsert.{idOf, fadedLink, fadedWeight, pairOf, absent, isHeld}
@@ -31,14 +30,14 @@ use Rattle.dbstream.specs.Stream.{view, dimOf}
 
 -- ---- predict
 module _ (s : DbStream) (x : List Float) where
-  pub predict-shape : (d : ℕ) → d ≡ dimOf s → length x ≢ d → Shape d (length x) ≡ predictOf (view s) x
+  pub predict-shape : (d : ℕ) → d ≡ dimOf s → length x ≢ d → refuses 7 (d ∷ length x ∷ []) ≡ predictOf (view s) x
   predict-shape d e h = rw (e, ne-eqb (length x) (dimOf s) (λ q. h (q ∙ sym e)))
 
   pub predicted :
       (ds : List Float) (label : ℤ) → length x ≡ dimOf s → take (s .count) ds ≡ distancesTo x (view s .micros) →
-      label ≡ labelAmong (s .r ⊗ s .r) (take (s .count) ds) (view s .labels) → Label label ≡ predictOf (view s) x
+      label ≡ labelAmong (s .r ⊗ s .r) (take (s .count) ds) (view s .labels) → gives label ≡ predictOf (view s) x
   predicted ds label ex eds e =
-      ap Label (e ∙ label-measured (s .r ⊗ s .r) (view s .labels) (featuresOf (view s)) x (take (s .count) ds) (eds ∙ sym (map-map (distanceTo x) featureOf (view s .micros))))
+      ap gives (e ∙ label-measured (s .r ⊗ s .r) (view s .labels) (featuresOf (view s)) x (take (s .count) ds) (eds ∙ sym (map-map (distanceTo x) featureOf (view s .micros))))
       ∙ sym (rw (eq-eqb (length x) (dimOf s) ex))
 
 -- ---- statistics
@@ -71,7 +70,7 @@ both-no true true true h = absurd (⊎-elim never (⊎-elim never never) h)
     never e = let z : _≡_ {A = ℕ} 0 1 = cc in omega arith
 
 module _ (s : State) (a b : MicroId) where
-  pub not-live : (isHeld (s .micros) a ≡ false) ⊎ ((isHeld (s .micros) b ≡ false) ⊎ (not (eqb (a .0) (b .0)) ≡ false)) → NotLive ≡ connectivityOf s a b
+  pub not-live : (isHeld (s .micros) a ≡ false) ⊎ ((isHeld (s .micros) b ≡ false) ⊎ (not (eqb (a .0) (b .0)) ≡ false)) → refuses 12 [] ≡ connectivityOf s a b
   unfolding connectivityOf
   not-live h = sym (rw (both-no (isHeld (s .micros) a) (isHeld (s .micros) b) (not (eqb (a .0) (b .0))) h))
 
@@ -79,8 +78,8 @@ module _ (s : State) (a b : MicroId) where
       (wa wb v : Float) → isHeld (s .micros) a ≡ true → isHeld (s .micros) b ≡ true → a .0 ≢ b .0 →
       wa ≡ storedWeight (s .micros) a → wb ≡ storedWeight (s .micros) b →
       v ≡ ofLink (λ (l : Link). fadedLink (s .settings .lambda) (s .t) l ⊘ ((wa ⊕ wb) ⊘ two)) (absent (pairOf a b .0) (pairOf a b .1) (s .t)) (s .links) →
-      Density v ≡ connectivityOf s a b
+      gives v ≡ connectivityOf s a b
   unfolding connectivityOf
   live wa wb v ha hb ne ea eb e =
-      ap Density (e ∙ ap₂ (λ (x y : Float). ofLink (λ (l : Link). fadedLink (s .settings .lambda) (s .t) l ⊘ ((x ⊕ y) ⊘ two)) (absent (pairOf a b .0) (pairOf a b .1) (s .t)) (s .links)) ea eb)
+      ap gives (e ∙ ap₂ (λ (x y : Float). ofLink (λ (l : Link). fadedLink (s .settings .lambda) (s .t) l ⊘ ((x ⊕ y) ⊘ two)) (absent (pairOf a b .0) (pairOf a b .1) (s .t)) (s .links)) ea eb)
       ∙ sym (rw (ha, hb, ne-eqb (a .0) (b .0) ne))

@@ -10,6 +10,7 @@ use model::Reading;
 ghost use mathlib.Core.Path.{_≡_};
 ghost use lib.ListN.{length};
 ghost use Rattle.drift.specs.Monitor.{reportOf};
+ghost use Rattle.model.specs.Answers.{predictionSaid, connectivitySaid};
 ghost use Rattle.model.specs.ReadOut.{clustersIn};
 ghost use Rattle.model.specs.DbCluster.{predictOf, labelsReadOf, statisticsOf, connectivityOf};
 ghost use Rattle.readout.specs.Told.{labelsTold, statisticsTold};
@@ -53,7 +54,7 @@ impl DbStream {
 
     // The label of the nearest micro-cluster, if it is no farther than r.
     pub fn try_predict(self, x: &[f64]) -> Prediction
-        ensures { λ r. ⌜ r ≡ predictOf (view self) (now (x .entry)) ⌝ }
+        ensures { λ r. ⌜ predictionSaid r ≡ predictOf (view self) (now (x .entry)) ⌝ }
     {
         let dim = lists::cut(self.dim, MAX_DIM);
         let got = x.len();
@@ -82,7 +83,7 @@ impl DbStream {
 
     // The faded link of two live micro-clusters over the mean of their stored weights.
     pub fn connectivity(self, a: MicroId, b: MicroId) -> Connectivity
-        ensures { λ r. ⌜ r ≡ connectivityOf (view self) a b ⌝ }
+        ensures { λ r. ⌜ connectivitySaid r ≡ connectivityOf (view self) a b ⌝ }
     {
         let micros = self.micros;
         let ids = micro::ids_of(micros, self.count);

@@ -2,7 +2,7 @@
 use Prim.Native.Nat.{ℕ}
 use mathlib.Core.Path.{_≡_, sym, ap, ap₂, _∙_}
 use mathlib.Core.Bool.{Bool, cond}
-use mathlib.Core.List.{List, map, map-map}
+use mathlib.Core.List.{List, [], _∷_, map, map-map}
 use lib.IntN.{ℤ}
 use lib.Ieee.{Float}
 use lib.ListN.{length, take}
@@ -10,12 +10,11 @@ use borrow.Author.Tests.{eq-eqb, ne-eqb}
 use Rattle.feature.specs.declared.spherical.Spherical.{Spherical}
 use Rattle.feature.specs.Feature.{within}
 use Rattle.model.specs.declared.micro.Micro.{Micro}
-use Rattle.model.specs.declared.answers.Prediction.{Prediction}
-use Rattle.model.specs.declared.answers.Prediction.the-variants.{Label, Shape}
 use Rattle.model.specs.Fading.{distanceTo}
 use Rattle.model.specs.ReadOut.{labelFor, Statistics, statisticsRead}
 use Rattle.model.specs.DenState.{State}
 use Rattle.model.specs.DenInsert.{fadedWeight}
+use Rattle.model.specs.Answers.{Said, gives, refuses}
 use Rattle.model.specs.DenCluster.{featuresOf, predictOf}
 use Rattle.readout.specs.Told.{labelAmong}
 use Rattle.readout.specs.LabelLaws.{label-measured}
@@ -23,17 +22,17 @@ use Rattle.pool.specs.Held.{microIn, seen, distanceIn, featureOf}
 
 -- predict's question
 module _ (s : State) (x : List Float) (d : ℕ) (e : d ≡ s .params .dim) where
-  abbrev answer : Bool → ℤ → Prediction
-  answer b l = cond b (Label l) (Shape (s .params .dim) (length x))
+  abbrev answer : Bool → ℤ → Said ℤ
+  answer b l = cond b (gives l) (refuses 7 (s .params .dim ∷ length x ∷ []))
 
-  pub predict-shape : (length x ≡ d → ⊥) → Shape d (length x) ≡ predictOf s x
+  pub predict-shape : (length x ≡ d → ⊥) → refuses 7 (d ∷ length x ∷ []) ≡ predictOf s x
   predict-shape h =
-      ap (λ (n : ℕ). Shape n (length x)) e
+      ap (λ (n : ℕ). refuses 7 (n ∷ length x ∷ [])) e
       ∙ ap (λ (b : Bool). answer b (labelFor (s .params .eps2) (featuresOf s) (s .labels) x)) (sym (ne-eqb (length x) (s .params .dim) (λ q. h (q ∙ sym e))))
 
-  pub predict-label : length x ≡ d → (l : ℤ) → l ≡ labelFor (s .params .eps2) (featuresOf s) (s .labels) x → Label l ≡ predictOf s x
+  pub predict-label : length x ≡ d → (l : ℤ) → l ≡ labelFor (s .params .eps2) (featuresOf s) (s .labels) x → gives l ≡ predictOf s x
   predict-label h l q =
-      ap Label q ∙ ap (λ (b : Bool). answer b (labelFor (s .params .eps2) (featuresOf s) (s .labels) x)) (sym (eq-eqb (length x) (s .params .dim) (h ∙ e)))
+      ap gives q ∙ ap (λ (b : Bool). answer b (labelFor (s .params .eps2) (featuresOf s) (s .labels) x)) (sym (eq-eqb (length x) (s .params .dim) (h ∙ e)))
 
 -- the first n of a pool, as its first h are seen
 module _ (pool : List Micro) (d k n h : ℕ) (dim : d ≡ k) (held : n ≡ h) where

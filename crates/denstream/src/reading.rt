@@ -4,6 +4,7 @@ use feature::MAX_DIM;
 use model::Prediction;
 use model::Reading;
 ghost use mathlib.Core.Path.{_≡_};
+ghost use Rattle.model.specs.Answers.{predictionSaid};
 ghost use Rattle.model.specs.ReadOut.{clustersIn};
 ghost use Rattle.model.specs.DenCluster.{predictOf, labelsReadOf, statisticsOf};
 ghost use Rattle.readout.specs.Told.{labelsTold, statisticsTold};
@@ -26,7 +27,7 @@ impl DenStream {
     }
 
     pub fn try_predict(self, x: &[f64]) -> Prediction
-        ensures { λ r. ⌜ r ≡ predictOf (view self) (now (x .entry)) ⌝ }
+        ensures { λ r. ⌜ predictionSaid r ≡ predictOf (view self) (now (x .entry)) ⌝ }
     {
         let params = self.params;
         let dim = lists::cut(params.dim, MAX_DIM);

@@ -18,7 +18,6 @@ use Rattle.labels.specs.LabelLaws.{labels-tell}
 use Rattle.drift.specs.declared.DriftReport.{DriftReport}
 use Rattle.drift.specs.Monitor.{reportOf}
 use Rattle.model.specs.declared.answers.Reading.{Reading}
-use Rattle.model.specs.declared.answers.Reading.the-variants.{Written, TooShort}
 use Rattle.model.specs.declared.micro.MicroId.{MicroId}
 use Rattle.model.specs.Families.{labelsBy}
 use Rattle.model.specs.ReadOut.{LabelsRead, labelsRead, written}
@@ -53,8 +52,8 @@ label-count s h =
 
 labels-read : (due lent labels : List ℤ) (answer : Reading) → length due ≤ length lent → labelsTold answer labels ≡ labelsRead due lent → take (length due) labels ≡ due
 labels-read due lent labels answer h e =
-    let w : LabelsRead = record { answer = Written; labels = written due lent } in
-    ap (λ (r : LabelsRead). take (length due) (r .labels)) (e ∙ ap (λ (b : Bool). cond b w (record { answer = TooShort; labels = lent })) (le-leb (length due) (length lent) h))
+    let w : LabelsRead = record { number = 0; labels = written due lent } in
+    ap (λ (r : LabelsRead). take (length due) (r .labels)) (e ∙ ap (λ (b : Bool). cond b w (record { number = 10; labels = lent })) (le-leb (length due) (length lent) h))
     ∙ take-append-seam due _
 
 -- what is read out of a stream

@@ -2,7 +2,10 @@
 use Prim.Native.Nat.{ℕ}
 use mathlib.Core.Bool.{Bool}
 use mathlib.Core.List.{List, [], _∷_}
+use mathlib.Core.Option.{Option, none, some}
 use lib.Dec.{eqb}
+use lib.IntN.{ℤ}
+use lib.Ieee.{Float}
 use Rattle.model.specs.declared.answers.Opening.{Opening}
 use Rattle.model.specs.declared.answers.Opening.the-variants.{Open, Dim, Radius, Lambda, Share, Weight, BetaMu}
 use Rattle.model.specs.declared.answers.Insertion.{Insertion}
@@ -40,18 +43,26 @@ insertionValues (Shape expected got) = expected ∷ got ∷ []
 insertionValues ClockAtLimit = []
 insertionValues NoPlace = []
 
-abbrev pub predictionNumber : Prediction → ℕ
-predictionNumber (prediction.Label label) = 0
-predictionNumber (prediction.Shape expected got) = 7
+-- what a call says that gives something: the number of its refusal and the values of that, or what it gives
+pub record Said (A : Type 0) : Type 0 where
+  pub number : ℕ
+  pub values : List ℕ
+  pub given : Option A
 
-abbrev pub predictionValues : Prediction → List ℕ
-predictionValues (prediction.Label label) = []
-predictionValues (prediction.Shape expected got) = expected ∷ got ∷ []
+abbrev pub gives : {A : Type 0} → A → Said A
+gives a = record { number = 0; values = []; given = some a }
+
+abbrev pub refuses : {A : Type 0} → (number : ℕ) → (values : List ℕ) → Said A
+refuses number values = record { number = number; values = values; given = none }
+
+abbrev pub predictionSaid : Prediction → Said ℤ
+predictionSaid (prediction.Label label) = gives label
+predictionSaid (prediction.Shape expected got) = refuses 7 (expected ∷ got ∷ [])
 
 abbrev pub readingNumber : Reading → ℕ
 readingNumber Written = 0
 readingNumber TooShort = 10
 
-abbrev pub connectivityNumber : Connectivity → ℕ
-connectivityNumber (Density value) = 0
-connectivityNumber NotLive = 12
+abbrev pub connectivitySaid : Connectivity → Said Float
+connectivitySaid (Density value) = gives value
+connectivitySaid NotLive = refuses 12 []

@@ -11,9 +11,7 @@ use Rattle.feature.specs.declared.spherical.Spherical.{Spherical}
 use Rattle.model.specs.declared.micro.MicroId.{MicroId}
 use Rattle.model.specs.declared.micro.DbMicro.{DbMicro}
 use Rattle.model.specs.declared.link.Link.{Link}
-use Rattle.model.specs.declared.answers.Connectivity.{Connectivity}
-use Rattle.model.specs.declared.answers.Connectivity.the-variants.{Density, NotLive}
-use Rattle.model.specs.declared.answers.Prediction.{Prediction}
+use Rattle.model.specs.Answers.{Said, gives, refuses}
 use Rattle.model.specs.Questions.{firstNo}
 use Rattle.model.specs.Families.{labelsBy}
 use Rattle.model.specs.ReadOut as read
@@ -74,7 +72,7 @@ clusterOf s =
 abbrev pub featuresOf : State → List Spherical
 featuresOf s = map (λ (m : DbMicro). m .cf) (s .micros)
 
-abbrev pub predictOf : State → List Float → Prediction
+abbrev pub predictOf : State → List Float → Said ℤ
 predictOf s x = read.predictOf (s .settings .dim) (s .settings .r ⊗ s .settings .r) (featuresOf s) (s .labels) x
 
 abbrev pub labelsReadOf : State → (lent : List ℤ) → LabelsRead
@@ -95,9 +93,9 @@ storedWeight [] id = nought
 storedWeight (m ∷ rest) id = cond (eqb (m .id .0) (id .0)) (m .cf .w) (storedWeight rest id)
 
 -- "faded link / ((wa + wb)/2), with the weights as stored; 0 without a link"; "are both creation numbers live and different? No: 12."
-unfoldable pub connectivityOf : State → (a b : MicroId) → Connectivity
+unfoldable pub connectivityOf : State → (a b : MicroId) → Said Float
 unfolding ofLink storedWeight
 connectivityOf s a b =
     let mean : Float = (storedWeight (s .micros) a ⊕ storedWeight (s .micros) b) ⊘ two in
-    firstNo ((isHeld (s .micros) a && isHeld (s .micros) b && not (eqb (a .0) (b .0)), NotLive) ∷ [])
-    (Density (ofLink (λ (l : Link). fadedLink (s .settings .lambda) (s .t) l ⊘ mean) (absent (pairOf a b .0) (pairOf a b .1) (s .t)) (s .links)))
+    firstNo ((isHeld (s .micros) a && isHeld (s .micros) b && not (eqb (a .0) (b .0)), refuses 12 []) ∷ [])
+    (gives (ofLink (λ (l : Link). fadedLink (s .settings .lambda) (s .t) l ⊘ mean) (absent (pairOf a b .0) (pairOf a b .1) (s .t)) (s .links)))

@@ -8,8 +8,8 @@ use Rattle.float.specs.Rounded.{_⊗_}
 use Rattle.feature.specs.declared.spherical.Spherical.{Spherical}
 use Rattle.feature.specs.Distance.{sqDist}
 use Rattle.model.specs.declared.micro.Micro.{Micro}
-use Rattle.model.specs.declared.answers.Prediction.{Prediction}
 use Rattle.model.specs.Families.{labelsBy, countedBy}
+use Rattle.model.specs.Answers.{Said}
 use Rattle.model.specs.ReadOut as read
 use Rattle.model.specs.ReadOut.{LabelsRead, Statistics, labelsRead, statisticsRead}
 use Rattle.model.specs.DenState.{State}
@@ -49,7 +49,7 @@ clusterOf s =
 abbrev pub featuresOf : State → List Spherical
 featuresOf s = map (λ (m : Micro). m .cf) (s .potential)
 
-abbrev pub predictOf : State → List Float → Prediction
+abbrev pub predictOf : State → List Float → Said ℤ
 predictOf s x = read.predictOf (s .params .dim) (s .params .eps2) (featuresOf s) (s .labels) x
 
 abbrev pub labelsReadOf : State → (lent : List ℤ) → LabelsRead

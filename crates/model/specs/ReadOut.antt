@@ -8,10 +8,7 @@ use lib.IntN.{ℤ, pos, negsuc}
 use lib.ListN.{length, getD, drop}
 use lib.Ieee.{Float, le}
 use Rattle.feature.specs.declared.spherical.Spherical.{Spherical}
-use Rattle.model.specs.declared.answers.Prediction.{Prediction}
-use Rattle.model.specs.declared.answers.Prediction.the-variants.{Label, Shape}
-use Rattle.model.specs.declared.answers.Reading.{Reading}
-use Rattle.model.specs.declared.answers.Reading.the-variants.{Written, TooShort}
+use Rattle.model.specs.Answers.{Said, gives, refuses}
 use Rattle.model.specs.Any.{any}
 use Rattle.model.specs.Questions.{firstNo}
 use Rattle.model.specs.Fading.{distanceTo, radiusOf}
@@ -30,9 +27,9 @@ labelFor radius2 features labels x =
     cond (eqb (length labels) (length features)) (labelNear radius2 labels (nearestOf (distanceTo x) features)) (negsuc 0)
 
 -- "predict (7 only)"
-abbrev pub predictOf : (dim : ℕ) (radius2 : Float) → List Spherical → List ℤ → (x : List Float) → Prediction
+abbrev pub predictOf : (dim : ℕ) (radius2 : Float) → List Spherical → List ℤ → (x : List Float) → Said ℤ
 predictOf dim radius2 features labels x =
-    firstNo ((eqb (length x) dim, Shape dim (length x)) ∷ []) (Label (labelFor radius2 features labels x))
+    firstNo ((eqb (length x) dim, refuses 7 (dim ∷ length x ∷ [])) ∷ []) (gives (labelFor radius2 features labels x))
 
 -- ---- lent slices
 -- "has every lent slice a place for each element due?"
@@ -43,14 +40,14 @@ hasPlaces due lent = leb (length due) (length lent)
 abbrev pub written : {A : Type 0} → (due lent : List A) → List A
 written due lent = due ++ drop (length due) lent
 
--- an answer, and the lent slice afterwards
+-- the refusal's number, and the lent slice afterwards
 pub record LabelsRead : Type 0 where
-  pub answer : Reading
+  pub number : ℕ
   pub labels : List ℤ
 
 abbrev pub labelsRead : (due lent : List ℤ) → LabelsRead
 labelsRead due lent =
-    firstNo ((hasPlaces due lent, record { answer = TooShort; labels = lent }) ∷ []) (record { answer = Written; labels = written due lent })
+    firstNo ((hasPlaces due lent, record { number = 10; labels = lent }) ∷ []) (record { number = 0; labels = written due lent })
 
 -- `n_clusters`: how many different labels there are, −1 left out
 abbrev pub sameFamily : ℤ → ℤ → Bool
@@ -65,7 +62,7 @@ clustersIn (l ∷ rest) = cond (sameFamily l l && not (any (sameFamily l) rest))
 
 -- ---- statistics
 pub record Statistics : Type 0 where
-  pub answer : Reading
+  pub number : ℕ
   pub centres : List Float
   pub weights : List Float
   pub radii : List Float
@@ -81,6 +78,6 @@ statisticsRead features faded centres weights radii =
     firstNo
     ((
       hasPlaces (centresOf features) centres && hasPlaces faded weights && hasPlaces (map radiusOf features) radii,
-      record { answer = TooShort; centres = centres; weights = weights; radii = radii },
+      record { number = 10; centres = centres; weights = weights; radii = radii },
     ) ∷ [])
-    (record { answer = Written; centres = written (centresOf features) centres; weights = written faded weights; radii = written (map radiusOf features) radii })
+    (record { number = 0; centres = written (centresOf features) centres; weights = written faded weights; radii = written (map radiusOf features) radii })

@@ -6,6 +6,7 @@ use lib.IntN.{ℤ, negsuc}
 use lib.Ieee.{Float, le}
 use lib.ListN.{length, getD}
 use Rattle.model.specs.declared.answers.Reading.{Reading}
+use Rattle.model.specs.Answers.{readingNumber}
 use Rattle.model.specs.ReadOut.{LabelsRead, Statistics}
 use Rattle.readout.specs.declared.distances.Found.{Found}
 use Rattle.readout.specs.declared.distances.Found.the-variants.{Nothing, At}
@@ -22,9 +23,9 @@ unfolding nearestAmong
 labelAmong radius2 distances labels =
     cond (eqb (length labels) (length distances)) (labelFound radius2 labels (nearestAmong distances)) (negsuc 0)
 
--- an answer, and the lent slices afterwards
+-- the answer's number, and the lent slices afterwards
 abbrev pub labelsTold : Reading → List ℤ → LabelsRead
-labelsTold answer labels = record { answer = answer; labels = labels }
+labelsTold answer labels = record { number = readingNumber answer; labels = labels }
 
 abbrev pub statisticsTold : Reading → (centres weights radii : List Float) → Statistics
-statisticsTold answer centres weights radii = record { answer = answer; centres = centres; weights = weights; radii = radii }
+statisticsTold answer centres weights radii = record { number = readingNumber answer; centres = centres; weights = weights; radii = radii }
