@@ -39,10 +39,7 @@ module _ (lambda t : Float) (s : Pass) (l : Link) (f : Factor) where
     inserts (inl h) = rw (off, le-ltb (s .walk .p) (s .count) h)
     inserts (inr h) = rw (off, lt-ltb (s .walk .p) (s .count) (h .0), h .1, h .2)
 
-    pub waiting-turn :
-        (new : Link) → None → s .count < linksMost → new ≡ gains lambda t (s .walk .key) →
-        _≡_ {A = Turn} (record { link = l; gained = false; pass = record { walk = s .walk; count = s .count; carries = true; carry = new; at = s .walk .p }; factor = f }) (turnOf lambda t s l f)
-    waiting-turn new none room is = sym (inserts none ∙ rw (lt-ltb (s .count) linksMost room, ← is))
-
-    pub full-turn : None → linksMost ≤ s .count → _≡_ {A = Turn} (record { link = l; gained = true; pass = s; factor = f }) (turnOf lambda t s l f)
-    full-turn none full = sym (inserts none ∙ rw (le-ltb (s .count) linksMost full))
+    pub inserted-turn : (r : Turn) → None → r ≡ insertedOf lambda t s l f → Right lambda t f → Right lambda t (r .factor) × (r ≡ turnOf lambda t s l (r .factor))
+    inserted-turn r none is right =
+        let e : r .factor ≡ f = ap (λ (v : Turn). v .factor) is ∙ either (ltb (s .count) linksMost) _ _ f refl refl in
+        (subst (Right lambda t) (sym e) right, is ∙ sym (inserts none) ∙ ap (turnOf lambda t s l) (sym e))

@@ -9,7 +9,7 @@ use model::MICROS;
 use model::MicroId;
 ghost use mathlib.Core.Path.{_≡_};
 ghost use Rattle.link.specs.Factor.{Right, gainsBy};
-ghost use Rattle.link.specs.Pass.{passFrom, placeOf, carriedOf, turnOf, nextPass};
+ghost use Rattle.link.specs.Pass.{passFrom, placeOf, carriedOf, insertedOf, turnOf, nextPass};
 
 // How far the pairs and the links are walked, and how many links there are; `carries` says that
 // `carry` is on its way up the list, and `at` where to.
@@ -103,7 +103,36 @@ impl Pass {
         }
     }
 
-    // l is the link at the place: it is passed, or it gains, or the pair's link goes there, if there is room.
+    // The key has no link: one that gained from 0 is carried to the place, if there is room.
+    fn inserted(self, l: Link, factor: Factor, lambda: f64, t: f64) -> Turn
+        ensures { λ r. ⌜ r ≡ insertedOf lambda t self l factor ⌝ }
+    {
+        let w = self.walk;
+        let key = w.key;
+        if self.count < LINKS {
+            let carry = gained(key, feature::fade(lambda, t, key.last), t);
+            let pass = Pass {
+                carries: true,
+                carry,
+                at: w.p,
+                ..self
+            };
+            return Turn {
+                link: l,
+                gained: false,
+                pass,
+                factor,
+            };
+        }
+        Turn {
+            link: l,
+            gained: true,
+            pass: self,
+            factor,
+        }
+    }
+
+    // l is the link at the place: it is passed, or it gains, or the pair's link goes there.
     pub fn turn(self, l: Link, factor: Factor, lambda: f64, t: f64) -> Turn
         ensures { λ r. ⌜ (Right lambda t factor → Right lambda t (r .factor) × (r ≡ turnOf lambda t self l (r .factor))) ⌝ }
     {
@@ -112,10 +141,9 @@ impl Pass {
         }
         let mut walk = self.walk;
         let key = walk.key;
-        let at = walk.p;
-        if at < self.count {
+        if walk.p < self.count {
             if is_before(l, key) {
-                walk.p = at + 1;
+                walk.p = walk.p + 1;
                 let pass = Pass { walk, ..self };
                 return Turn {
                     link: l,
@@ -134,27 +162,7 @@ impl Pass {
                 };
             }
         }
-        if self.count < LINKS {
-            let carry = gained(key, feature::fade(lambda, t, key.last), t);
-            let pass = Pass {
-                carries: true,
-                carry,
-                at,
-                ..self
-            };
-            return Turn {
-                link: l,
-                gained: false,
-                pass,
-                factor,
-            };
-        }
-        Turn {
-            link: l,
-            gained: true,
-            pass: self,
-            factor,
-        }
+        self.inserted(l, factor, lambda, t)
     }
 
     // At the next pair.

@@ -1,19 +1,11 @@
 use mathlib.Core.Path.{sym, _∙_}
 use mathlib.Core.Logic.{inl, inr, ⊎-elim}
-use borrow.Author.Tests.{lt-ltb, le-ltb}
-use Rattle.link.proofs.Passes.{carried-turn, gained-turn, waiting-turn, full-turn}
+use borrow.Author.Tests.{lt-ltb}
+use Rattle.link.proofs.Passes.{carried-turn, gained-turn, inserted-turn}
 use Rattle.link.specs.Factor.{since-is, since-right, gain-by}
 use borrow.Author.Needs.{needs}
 use Rattle.link.proofs.pass.Pass.turn.Statement.{statement}
 use Rattle.link.proofs.pass.Pass.turn.Tie as tie
-use Rattle.link.proofs.pass.Pass.turn.Reads as reads
-use Rattle.link.proofs.pass.Pass.turn.Lts as lts
-use Rattle.feature.proofs.fade.Reads as fade-reads
-use Rattle.link.proofs.factor.Factor.since.Reads as since-reads
-use Rattle.link.proofs.order.is_before.Reads as is-before-reads
-use Rattle.link.proofs.order.same_ends.Reads as same-ends-reads
-use Rattle.link.proofs.pass.Pass.carried.Reads as carried-reads
-use Rattle.link.proofs.pass.gained.Reads as gained-reads
 
 carried-requires : tie.Need-carried-requires
 carried-requires c κs = search needs
@@ -30,7 +22,7 @@ add-walk : tie.Need-add-walk
 add-walk c = search needs
 
 returns-2 : tie.Need-returns-2
-returns-2 c = λ right. (right, sym (rw (c .before .before .before .before .before .before .before .if1 .left, lt-ltb _ _ (c .before .before .before .if2 .taken), ← c .before .before .«is-before» .ensures, c .before .if3 .taken)))
+returns-2 c = λ right. (right, sym (rw (c .before .before .before .before .before .before .before .before .before .if1 .left, lt-ltb _ _ (c .before .before .before .before .if2 .taken), ← c .before .before .before .«is-before» .ensures, c .before .before .if3 .taken)))
 
 same-ends-requires : tie.Need-same-ends-requires
 same-ends-requires c κs = search needs
@@ -43,24 +35,17 @@ gained-requires c κs = search needs
 
 returns-3 : tie.Need-returns-3
 returns-3 c =
-    let a = c .before .before .before .before .before .before .before .before .before .before .before .args in
-    λ right. (since-right (a .lambda) (a .t) (a .factor) _ (a .l .last) right (c .before .since .ensures), gained-turn (a .lambda) (a .t) (a .self) (a .l) (c .before .since .result) (c .before .before .before .before .before .before .before .before .before .before .if1 .left) (c .gained .result) (c .before .before .before .before .before .before .if2 .taken) (sym (c .before .before .before .before .before .«is-before» .ensures) ∙ c .before .before .before .before .if3 .left) (sym (c .before .before .before .«same-ends» .ensures) ∙ c .before .before .if4 .taken) (c .gained .ensures ∙ gain-by (a .lambda) (a .t) (c .before .since .result .fade) (a .l) (since-is (a .lambda) (a .t) (a .factor) _ (a .l .last) right (c .before .since .ensures))))
+    let a = c .before .before .before .before .before .before .before .before .before .before .before .before .args in
+    λ right. (since-right (a .lambda) (a .t) (a .factor) _ (a .l .last) right (c .before .since .ensures), gained-turn (a .lambda) (a .t) (a .self) (a .l) (c .before .since .result) (c .before .before .before .before .before .before .before .before .before .before .before .if1 .left) (c .gained .result) (c .before .before .before .before .before .before .if2 .taken) (sym (c .before .before .before .before .before .«is-before» .ensures) ∙ c .before .before .before .before .if3 .left) (sym (c .before .before .before .«same-ends» .ensures) ∙ c .before .before .if4 .taken) (c .gained .ensures ∙ gain-by (a .lambda) (a .t) (c .before .since .result .fade) (a .l) (since-is (a .lambda) (a .t) (a .factor) _ (a .l .last) right (c .before .since .ensures))))
 
-fade-requires : tie.Need-fade-requires
-fade-requires c κs = search needs
-
-gained-requires-2 : tie.Need-gained-requires-2
-gained-requires-2 c κs = search needs
+inserted-requires : tie.Need-inserted-requires
+inserted-requires c κs = search needs
 
 returns-4 : tie.Need-returns-4
 returns-4 c =
-    let a = c .before .before .before .before .before .before .before .before .before .before .args in
-    λ right. (right, waiting-turn (a .lambda) (a .t) (a .self) (a .l) (a .factor) (c .before .before .before .before .before .before .before .before .before .if1 .left) (c .before .gained2 .result) (⊎-elim (λ w. inr (w .0 .taken, sym (w .1 .ensures) ∙ w .2 .left, sym (w .3 .ensures) ∙ w .4 .left)) (λ w. inl (w .left)) (c .before .before .before .before .before .if2 .came)) (c .before .before .before .if5 .taken) (c .before .gained2 .ensures ∙ gain-by (a .lambda) (a .t) (c .before .before .fade .result) (a .self .walk .key) (c .before .before .fade .ensures .0)))
-
-returns-5 : tie.Need-returns-5
-returns-5 c =
     let a = c .before .before .before .before .before .before .before .args in
-    λ right. (right, full-turn (a .lambda) (a .t) (a .self) (a .l) (a .factor) (c .before .before .before .before .before .before .if1 .left) (⊎-elim (λ w. inr (w .0 .taken, sym (w .1 .ensures) ∙ w .2 .left, sym (w .3 .ensures) ∙ w .4 .left)) (λ w. inl (w .left)) (c .before .before .if2 .came)) (c .if5 .left))
+    inserted-turn (a .lambda) (a .t) (a .self) (a .l) (a .factor) (c .before .before .before .before .before .before .if1 .left) (c .inserted .result)
+    (⊎-elim (λ w. inr (w .0 .taken, sym (w .1 .ensures) ∙ w .2 .left, sym (w .3 .ensures) ∙ w .4 .left)) (λ w. inl (w .left)) (c .before .if2 .came)) (c .inserted .ensures)
 
 pub turn-spec : {M : Type 1} → statement M
 turn-spec =
@@ -75,7 +60,5 @@ turn-spec =
     since-requires
     gained-requires
     returns-3
-    fade-requires
-    gained-requires-2
-    returns-4
-    returns-5)
+    inserted-requires
+    returns-4)
