@@ -6,105 +6,44 @@ use mathlib.Core.Path.{_≡_, refl, sym, ap, ap₂, subst, _∙_}
 use mathlib.Core.Logic.{_≢_, by-cases}
 use mathlib.Core.List.{List, [], _∷_, _++_, map, foldl}
 use mathlib.Core.Bool.{Bool, true, false, not, cond, _||_}
-use borrow.Author.Tests.{eq-eqb, ne-eqb, lt-ltb, le-ltb}
+use borrow.Author.Tests.{eq-eqb, ne-eqb, lt-ltb}
 use lib.Dec.{T, eqb, ltb, ltb→lt}
-use lib.Ieee.{Float, lt}
-use lib.ListN.{length, take, set, length-take}
-use lib.Seq.{take-all, length-take-le}
+use lib.Ieee.{Float}
+use lib.ListN.{length, take, length-take}
+use lib.Seq.{length-take-le}
 use Rattle.float.specs.Rounded.{_⊗_}
 use Rattle.lists.specs.Retain.{retain}
 use Rattle.lists.specs.Rest.{cut-take}
-use Rattle.lists.specs.Maps.{map-length}
+use Rattle.lists.specs.Maps.{map-length, map-append}
 use Rattle.feature.specs.Feature.{maxDim}
 use Rattle.model.specs.declared.micro.MicroId.{MicroId}
 use Rattle.model.specs.declared.micro.DbMicro.{DbMicro}
 use Rattle.model.specs.declared.answers.Insertion.{Insertion}
-use Rattle.model.specs.declared.answers.Insertion.the-variants.{Done, Shape, ClockAtLimit, NoPlace}
 use Rattle.model.specs.Any.{any}
-use Rattle.model.specs.Limits.{clockLimit, microsMost}
-use Rattle.model.specs.Answers.{insertionNumber}
+use Rattle.model.specs.Limits.{microsMost}
+use Rattle.model.specs.Answers.{isDone}
 use Rattle.model.specs.Questions.{insertionAsked}
 use Rattle.model.specs.Outcome.{outcome}
+use Rattle.model.specs.InsertLaws.{inserted-by}
 use Rattle.model.specs.DbState.{State}
 use Rattle.model.specs.DbInsert.{isNeighbour, neighboursOf, isAbsorbed, leastOf, newborn, absorbs, absorbed, pairsOf, gainOf, born, idOf, joined, placed, tickOf, takenOf, hasPlace, nearestFor, insertOf}
 use Rattle.micro.specs.declared.scan.Scan.{Scan}
 use Rattle.micro.specs.Held.{cutTo, held, distancesTo}
 use Rattle.micro.specs.Near.{absorbNear}
 use Rattle.micro.specs.Scanned.{Scanned}
-use Rattle.micro.specs.Views.{absorb-view, newborn-view, appended}
+use Rattle.micro.specs.Views.{absorb-view, newborn-view}
 use Rattle.dbstream.specs.declared.DbStream.{DbStream}
 use Rattle.dbstream.specs.Stream.{view, dimOf}
-use Rattle.dbstream.specs.Placed.{changed, bornBy, absorbedBy, gainedBy, placedBy}
+use Rattle.dbstream.specs.Placed.{changed, microsBy, gainedBy, placedBy}
 
--- ---- the questions
+-- whether there is a place, by how many absorb and how many are held
 abbrev pub room : (absorbing held : ℕ) → Bool
 room absorbing held = not (eqb absorbing 0) || ltb held microsMost
 
-module _ (dim got : ℕ) (t : Float) (k n : ℕ) where
-  pub asked-length : got ≢ dim → Shape dim got ≡ insertionAsked dim got t (room k n)
-  asked-length a = sym (rw (ne-eqb got dim a))
-
-  pub asked-clock : got ≡ dim → lt t clockLimit ≡ false → ClockAtLimit ≡ insertionAsked dim got t (room k n)
-  asked-clock a b = sym (rw (eq-eqb got dim a, b))
-
-  pub asked-full : got ≡ dim → lt t clockLimit ≡ true → k ≡ 0 → microsMost ≤ n → NoPlace ≡ insertionAsked dim got t (room k n)
-  asked-full a b c d = sym (rw (eq-eqb got dim a, b, eq-eqb k 0 c, le-ltb n microsMost d))
-
-  pub asked-free : got ≡ dim → lt t clockLimit ≡ true → k ≡ 0 → n < microsMost → Done ≡ insertionAsked dim got t (room k n)
-  asked-free a b c d = sym (rw (eq-eqb got dim a, b, eq-eqb k 0 c, lt-ltb n microsMost d))
-
-  pub asked-some : got ≡ dim → lt t clockLimit ≡ true → k ≢ 0 → Done ≡ insertionAsked dim got t (room k n)
-  asked-some a b c = sym (rw (eq-eqb got dim a, b, ne-eqb k 0 c))
-
--- a point that is taken has dim coordinates, and a place
-never : {A : Type 0} → false ≡ true → A
-never e = let z : _≡_ {A = ℕ} 0 1 = cc in absurd (omega arith)
-
-taken-length : (dim got : ℕ) (t : Float) (place : Bool) → eqb (insertionNumber (insertionAsked dim got t place)) 0 ≡ true → got ≡ dim
-taken-length dim got t place e =
-    by-cases (ℕ-discrete got dim) (λ h. h)
-    (λ h. never (sym (ap (λ (b : Bool). eqb (insertionNumber (cond b (cond (lt t clockLimit) (cond place Done NoPlace) ClockAtLimit) (Shape dim got))) 0) (ne-eqb got dim h)) ∙ e))
-
-taken-place : (dim got : ℕ) (t : Float) (place : Bool) → eqb (insertionNumber (insertionAsked dim got t place)) 0 ≡ true → place ≡ true
-taken-place dim got t place e = go (eqb got dim) (lt t clockLimit) place e
-  where
-    go : (a b p : Bool) → eqb (insertionNumber (cond a (cond b (cond p Done NoPlace) ClockAtLimit) (Shape dim got))) 0 ≡ true → p ≡ true
-    go true true true e = refl
-    go true true false e = never e
-    go true false p e = never e
-    go false b p e = never e
-
-module _ (a : Insertion) (dim got : ℕ) (t : Float) (k n : ℕ) (e : a ≡ insertionAsked dim got t (room k n)) (done : eqb (insertionNumber a) 0 ≡ true) where
-  answered : eqb (insertionNumber (insertionAsked dim got t (room k n))) 0 ≡ true
-  answered = ap (λ (q : Insertion). eqb (insertionNumber q) 0) (sym e) ∙ done
-
-  has-length : got ≡ dim
-  has-length = taken-length dim got t (room k n) answered
-
-  has-free : k ≡ 0 → n < microsMost
-  has-free h =
-      let p : room k n ≡ true = taken-place dim got t (room k n) answered in
-      let q : ltb n microsMost ≡ true = ap (λ (b : Bool). not b || ltb n microsMost) (sym (eq-eqb k 0 h)) ∙ p in
-      ltb→lt n microsMost (subst T (sym q) tt)
-
--- what becomes of the stream goes by the answer
-outcome-refused : (a : Insertion) (came taken : State) → eqb (insertionNumber a) 0 ≡ false → record { answer = a; stream = came } ≡ outcome a came taken
-outcome-refused Done came taken e = never (sym e)
-outcome-refused (Shape expected got) came taken e = refl
-outcome-refused ClockAtLimit came taken e = refl
-outcome-refused NoPlace came taken e = refl
-
-outcome-done : (a : Insertion) (came taken : State) → eqb (insertionNumber a) 0 ≡ true → record { answer = a; stream = taken } ≡ outcome a came taken
-outcome-done Done came taken e = refl
-outcome-done (Shape expected got) came taken e = never e
-outcome-done ClockAtLimit came taken e = never e
-outcome-done NoPlace came taken e = never e
-
-pub no-refusal : (a : Insertion) → eqb (insertionNumber a) 0 ≡ true → insertionNumber a ≡ 0
-no-refusal Done e = refl
-no-refusal (Shape expected got) e = never e
-no-refusal ClockAtLimit e = never e
-no-refusal NoPlace e = never e
+room-free : (k n : ℕ) → room k n ≡ true → k ≡ 0 → n < microsMost
+room-free k n p h =
+    let q : ltb n microsMost ≡ true = ap (λ (b : Bool). not b || ltb n microsMost) (sym (eq-eqb k 0 h)) ∙ p in
+    ltb→lt n microsMost (subst T (sym q) tt)
 
 -- ---- lists: p holds of one where one is retained; fewer than two make no pair; a whole point
 any-none : {A : Type 0} (p : A → Bool) (l : List A) → length (retain p l) ≡ 0 → any p l ≡ false
@@ -131,9 +70,6 @@ no-pair [] h = refl
 no-pair (a ∷ []) h = refl
 no-pair (a ∷ b ∷ ids) h = absurd (omega arith)
 
-pub whole-point : (x p : List Float) (d : ℕ) → length x ≡ d → d ≤ maxDim → take (length x) p ≡ take maxDim x → take d p ≡ x
-whole-point x p d e h q = ap (λ (n : ℕ). take n p) (sym e) ∙ q ∙ take-all maxDim x (omega arith)
-
 -- ---- the stream after the micro-clusters and links, before the tick
 -- what is known once the micro-clusters are scanned for x, of which y is the first d places: n are held
 pub record Met (s : DbStream) (x y : List Float) (d n : ℕ) (f : Scan) : Type 0 where
@@ -142,6 +78,7 @@ pub record Met (s : DbStream) (x y : List Float) (d n : ℕ) (f : Scan) : Type 0
   pub held-is : n ≡ min (s .count) microsMost
   pub places : length (s .micros) ≡ microsMost
   pub ids-places : length (f .ids) ≡ microsMost
+  pub distances-places : length (f .distances) ≡ microsMost
   pub scanned : Scanned (s .r) y d n (s .micros) f
 
 -- of a point of dim coordinates
@@ -177,65 +114,51 @@ module _ {s : DbStream} {x y : List Float} {d n : ℕ} {f : Scan} (m : Met s x y
   nearest-is : f .nearest ≡ nearestFor (view s) x
   nearest-is = met .nearest ∙ ap (λ (l : List DbMicro). leastOf (distancesTo x (map (cutTo (dimOf s)) l))) kept
 
-  micros-born : n < microsMost → bornBy s y ≡ view s .micros ++ newborn (dimOf s) (record { 0 = s .«next_id» }) (s .t) x ∷ []
-  micros-born free =
-      ap (λ (q : ℕ). held (dimOf s) (q + 1) (set (s .micros) q (newborn maxDim (record { 0 = s .«next_id» }) (s .t) y))) (sym (m .held-is))
-      ∙ appended (dimOf s) n (s .micros) (newborn maxDim (record { 0 = s .«next_id» }) (s .t) y) (omega arith)
-      ∙ ap₂ (λ (l : List DbMicro) (v : DbMicro). map (cutTo (dimOf s)) l ++ v ∷ []) kept
-      (ap (λ (z : List Float). cutTo (dimOf s) (newborn maxDim (record { 0 = s .«next_id» }) (s .t) z)) (m .point ex) ∙ newborn-view (dimOf s) x (ex ∙ m .coordinates) (omega arith) (s .t) (record { 0 = s .«next_id» }))
+  few : f .count ≡ 0 → n < microsMost → ltb (s .count) microsMost ≡ true
+  few z h = lt-ltb (s .count) microsMost (omega (arith, m .held-is, h))
 
-  micros-absorbed : absorbedBy s f y ≡ map (absorbed (s .r) (s .lambda) (s .t) x) (view s .micros)
-  micros-absorbed =
-      ap (λ (q : ℕ). map (cutTo (dimOf s)) (absorbNear (s .r ⊗ s .r) (absorbs (s .lambda) (s .t) y) (take q (f .distances)) (take q (s .micros)))) (sym (m .held-is))
-      ∙ ap₂ (λ (z q : List Float). map (cutTo (dimOf s)) (absorbNear (s .r ⊗ s .r) (absorbs (s .lambda) (s .t) z) q (take n (s .micros)))) (m .point ex) (met .measured)
-      ∙ absorb-view (dimOf s) x (ex ∙ m .coordinates) (s .r) (s .lambda) (s .t) (take n (s .micros))
-      ∙ ap (λ (l : List DbMicro). map (absorbed (s .r) (s .lambda) (s .t) x) (map (cutTo (dimOf s)) l)) kept
+  micros-born : f .count ≡ 0 → n < microsMost → microsBy s f y ≡ view s .micros ++ newborn (dimOf s) (record { 0 = s .«next_id» }) (s .t) x ∷ []
+  micros-born z h =
+      rw (eq-eqb (f .count) 0 z, few z h)
+      (map-append (cutTo (dimOf s)) (take (s .count) (s .micros)) (newborn maxDim (record { 0 = s .«next_id» }) (s .t) y ∷ [])
+      ∙ ap (λ (v : DbMicro). view s .micros ++ v ∷ [])
+      (ap (λ (q : List Float). cutTo (dimOf s) (newborn maxDim (record { 0 = s .«next_id» }) (s .t) q)) (m .point ex) ∙ newborn-view (dimOf s) x (ex ∙ m .coordinates) (omega arith) (s .t) (record { 0 = s .«next_id» })))
+
+  measured-is : take (s .count) (f .distances) ≡ distancesTo x (view s .micros)
+  measured-is =
+      sym (cut-take n (s .count) microsMost (f .distances) (m .held-is) (m .distances-places)) ∙ met .measured
+      ∙ ap (λ (l : List DbMicro). distancesTo x (map (cutTo (dimOf s)) l)) kept
+
+  micros-absorbed : f .count ≢ 0 → microsBy s f y ≡ map (absorbed (s .r) (s .lambda) (s .t) x) (view s .micros)
+  micros-absorbed h =
+      rw (ne-eqb (f .count) 0 h)
+      (ap₂ (λ (z q : List Float). map (cutTo (dimOf s)) (absorbNear (s .r ⊗ s .r) (absorbs (s .lambda) (s .t) z) q (take (s .count) (s .micros)))) (m .point ex) measured-is
+      ∙ absorb-view (dimOf s) x (ex ∙ m .coordinates) (s .r) (s .lambda) (s .t) (take (s .count) (s .micros)))
 
   -- no pair, no gain
   links-stay : f .count ≡ 0 → gainedBy s f ≡ view s .links
   links-stay h =
-      let few : length (take (f .count) (f .ids)) ≤ 1 = omega (arith, length-take (f .count) (f .ids)) in
-      ap (foldl (gainOf (s .lambda) (s .t)) (view s .links)) (no-pair (take (f .count) (f .ids)) few)
+      let short : length (take (f .count) (f .ids)) ≤ 1 = omega (arith, length-take (f .count) (f .ids)) in
+      ap (foldl (gainOf (s .lambda) (s .t)) (view s .links)) (no-pair (take (f .count) (f .ids)) short)
 
-  pub placed-is : (f .count ≡ 0 → n < microsMost) → placedBy s f y ≡ placed (view s) x
+  placed-is : (f .count ≡ 0 → n < microsMost) → placedBy s f y ≡ placed (view s) x
   placed-is free =
       by-cases (ℕ-discrete (f .count) 0)
-      (λ h. choose (eq-eqb (f .count) 0 h)
-      ∙ ap₂ (changed s ((s .«next_id» + 1) % 2 ^ 64)) (micros-born (free h)) (links-stay h)
+      (λ h.
+      ap (λ (q : ℕ). changed s q (microsBy s f y) (gainedBy s f)) (rw (eq-eqb (f .count) 0 h, few h (free h)) refl)
+      ∙ ap₂ (changed s ((s .«next_id» + 1) % 2 ^ 64)) (micros-born h (free h)) (links-stay h)
       ∙ sym (ap (λ (c : Bool). cond c (joined (view s) x) (born (view s) x)) (none h)))
-      (λ h. choose (ne-eqb (f .count) 0 h)
-      ∙ ap₂ (changed s (s .«next_id»)) micros-absorbed (ap (λ (q : List MicroId). foldl (gainOf (s .lambda) (s .t)) (view s .links) (pairsOf q)) ids-are)
+      (λ h.
+      ap (λ (q : ℕ). changed s q (microsBy s f y) (gainedBy s f)) (rw (ne-eqb (f .count) 0 h) refl)
+      ∙ ap₂ (changed s (s .«next_id»)) (micros-absorbed h) (ap (λ (q : List MicroId). foldl (gainOf (s .lambda) (s .t)) (view s .links) (pairsOf q)) ids-are)
       ∙ sym (ap (λ (c : Bool). cond c (joined (view s) x) (born (view s) x)) (some h)))
-    where
-      choose :
-          {b : Bool} → eqb (f .count) 0 ≡ b →
-          placedBy s f y ≡ cond b (changed s ((s .«next_id» + 1) % 2 ^ 64) (bornBy s y) (gainedBy s f)) (changed s (s .«next_id») (absorbedBy s f y) (gainedBy s f))
-      choose e = ap (λ (c : Bool). cond c (changed s ((s .«next_id» + 1) % 2 ^ 64) (bornBy s y) (gainedBy s f)) (changed s (s .«next_id») (absorbedBy s f y) (gainedBy s f))) e
 
 -- ---- the whole insert
-module _ {s : DbStream} {x y : List Float} {d n : ℕ} {f : Scan} (m : Met s x y d n f) (a : Insertion) (e : a ≡ insertionAsked d (length x) (s .t) (room (f .count) n)) where
-  -- the answer is document 01's: a point of another length has no other answer, whatever the scan says
-  answer-is : a ≡ insertionAsked (dimOf s) (length x) (s .t) (hasPlace (view s) x)
-  answer-is =
-      e ∙ ap (λ (q : ℕ). insertionAsked q (length x) (s .t) (room (f .count) n)) (m .coordinates)
-      ∙ by-cases (ℕ-discrete (length x) d) (λ h. ap (insertionAsked (dimOf s) (length x) (s .t)) (place-is m h))
-      (λ h.
-      let g : eqb (length x) (dimOf s) ≡ false = ne-eqb (length x) (dimOf s) (λ q. h (q ∙ sym (m .coordinates))) in
-      ap (λ (b : Bool). cond b (cond (lt (s .t) clockLimit) (cond (room (f .count) n) Done NoPlace) ClockAtLimit) (Shape (dimOf s) (length x))) g
-      ∙ sym (ap (λ (b : Bool). cond b (cond (lt (s .t) clockLimit) (cond (hasPlace (view s) x) Done NoPlace) ClockAtLimit) (Shape (dimOf s) (length x))) g))
-
-  exact : eqb (insertionNumber a) 0 ≡ true → length x ≡ d
-  exact h = has-length a d (length x) (s .t) (f .count) n e h
-
-  pub free : eqb (insertionNumber a) 0 ≡ true → f .count ≡ 0 → n < microsMost
-  free h = has-free a d (length x) (s .t) (f .count) n e h
-
-  pub refused : eqb (insertionNumber a) 0 ≡ false → record { answer = a; stream = view s } ≡ insertOf (view s) x
+module _ {s : DbStream} {x y : List Float} {d n : ℕ} {f : Scan} (m : Met s x y d n f) (a : Insertion) (place : Bool) (ep : place ≡ room (f .count) n) (e : a ≡ insertionAsked d (length x) (s .t) place) where
+  -- v is what becomes of the stream, by whether the answer is no refusal
+  pub inserted : (b : Bool) (v : State) → b ≡ isDone a → v ≡ cond b (tickOf (placedBy s f y) (f .nearest)) (view s) → record { answer = a; stream = v } ≡ insertOf (view s) x
   unfolding insertOf
-  refused h = outcome-refused a (view s) (takenOf (view s) x) h ∙ ap (λ (q : Insertion). outcome q (view s) (takenOf (view s) x)) answer-is
-
-  pub accepted : (v : State) → eqb (insertionNumber a) 0 ≡ true → v ≡ tickOf (placedBy s f y) (f .nearest) → record { answer = a; stream = v } ≡ insertOf (view s) x
-  unfolding insertOf
-  accepted v h ev =
-      ap (λ (w : State). record { answer = a; stream = w }) (ev ∙ ap₂ tickOf (placed-is m (exact h) (free h)) (nearest-is m (exact h)))
-      ∙ outcome-done a (view s) (takenOf (view s) x) h ∙ ap (λ (q : Insertion). outcome q (view s) (takenOf (view s) x)) answer-is
+  inserted b v eb ev =
+      inserted-by d (length x) (s .t) place (hasPlace (view s) x) (view s) (takenOf (view s) x) (tickOf (placedBy s f y) (f .nearest)) v a b (λ h. ep ∙ place-is m h) e eb ev
+      (λ h p. ap₂ tickOf (placed-is m h (room-free (f .count) n (sym ep ∙ p))) (nearest-is m h))
+      ∙ ap (λ (q : ℕ). outcome (insertionAsked q (length x) (s .t) (hasPlace (view s) x)) (view s) (takenOf (view s) x)) (m .coordinates)

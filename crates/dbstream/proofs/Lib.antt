@@ -1,5 +1,4 @@
 pub mod Openings
-pub mod Taken
 pub mod Ticks
 pub mod Inserts
 pub mod Labels

@@ -1,12 +1,9 @@
 -- The read-outs of the arrays, seen through the view.
 use Prim.Native.Nat.{ℕ}
-use mathlib.Core.Path.{_≡_, refl, sym, ap, ap₂, _∙_}
-use mathlib.Core.Logic.{_≢_, _⊎_, ⊎-elim}
+use mathlib.Core.Path.{_≡_, sym, ap, ap₂, _∙_}
+use mathlib.Core.Logic.{_≢_}
 use mathlib.Core.List.{List, [], _∷_, map}
-use mathlib.Core.Bool.{Bool, true, false, not, _&&_}
-use native.Mathlib.Omega.{arith}
 use borrow.Author.Tests.{eq-eqb, ne-eqb}
-use lib.Dec.{eqb}
 use lib.IntN.{ℤ}
 use lib.Ieee.{Float}
 use lib.ListN.{length, take}
@@ -14,15 +11,14 @@ use Rattle.float.specs.Rounded.{_⊕_, _⊗_, _⊘_, two}
 use Rattle.feature.specs.declared.spherical.Spherical.{Spherical}
 use Rattle.feature.specs.Feature.{within}
 use Rattle.model.specs.declared.micro.MicroId.{MicroId}
-use Rattle.model.specs.declared.link.Link.{Link}
+use Rattle.model.specs.declared.micro.DbMicro.{DbMicro}
 use Rattle.model.specs.Answers.{gives, refuses}
 use Rattle.model.specs.Fading.{distanceTo}
-use Rattle.model.specs.DbState.{State}
-use Rattle.model.specs.DbInsert.{idOf, fadedLink, fadedWeight, pairOf, absent, isHeld}
-use Rattle.model.specs.DbCluster.{featuresOf, predictOf, ofLink, storedWeight, connectivityOf}
+use Rattle.model.specs.DbInsert.{idOf, fadedWeight}
+use Rattle.model.specs.DbCluster.{featuresOf, predictOf, storedWeight, connectivityOf}
 use Rattle.micro.specs.Held.{cutTo, featureOf, distancesTo}
 use Rattle.micro.specs.Views.{map-map, weight-view}
-use Rattle.link.specs.Among.{isAmong, among-held}
+use Rattle.link.specs.Between.{connectivityAmong, connectivity-view}
 use Rattle.readout.specs.Told.{labelAmong}
 use Rattle.readout.specs.LabelLaws.{label-measured}
 use Rattle.dbstream.specs.declared.DbStream.{DbStream}
@@ -51,35 +47,13 @@ module _ (s : DbStream) where
   weights-are ws e = e ∙ sym (map-map (fadedWeight (s .lambda) (s .t)) (cutTo (dimOf s)) (take (s .count) (s .micros)))
 
 -- ---- connectivity
--- a creation number is among the ids where a micro-cluster has it
-module _ (s : DbStream) where
-  pub at-home : (ids : List MicroId) (id : MicroId) (b c : Bool) → ids ≡ map idOf (take (s .count) (s .micros)) → b ≡ isAmong ids id → b ≡ c → isHeld (view s .micros) id ≡ c
-  at-home ids id b c e h q =
-      sym (among-held (view s .micros) id) ∙ ap (λ (l : List MicroId). isAmong l id) (sym (e ∙ sym (map-map idOf (cutTo (dimOf s)) (take (s .count) (s .micros))))) ∙ sym h ∙ q
-
-  pub stored-is : (id : MicroId) (w : Float) → w ≡ storedWeight (take (s .count) (s .micros)) id → w ≡ storedWeight (view s .micros) id
-  stored-is id w e = e ∙ weight-view (dimOf s) (take (s .count) (s .micros)) id
-
-both-no : (a b c : Bool) → (a ≡ false) ⊎ ((b ≡ false) ⊎ (c ≡ false)) → a && b && c ≡ false
-both-no false b c h = refl
-both-no true false c h = refl
-both-no true true false h = refl
-both-no true true true h = absurd (⊎-elim never (⊎-elim never never) h)
+pub connected :
+    (s : DbStream) (a b : MicroId) (ids : List MicroId) (wa wb : Float) → ids ≡ map idOf (take (s .count) (s .micros)) → wa ≡ storedWeight (take (s .count) (s .micros)) a → wb ≡ storedWeight (take (s .count) (s .micros)) b →
+    connectivityAmong ids a b ((wa ⊕ wb) ⊘ two) (s .lambda) (s .t) (view s .links) ≡ connectivityOf (view s) a b
+connected s a b ids wa wb names ea eb =
+    ap (λ (l : List MicroId). connectivityAmong l a b ((wa ⊕ wb) ⊘ two) (s .lambda) (s .t) (view s .links)) (names ∙ sym (map-map idOf (cutTo (dimOf s)) ms))
+    ∙ ap₂ (λ (x y : Float). connectivityAmong (map idOf (view s .micros)) a b ((x ⊕ y) ⊘ two) (s .lambda) (s .t) (view s .links)) (ea ∙ weight-view (dimOf s) ms a) (eb ∙ weight-view (dimOf s) ms b)
+    ∙ connectivity-view (view s) a b
   where
-    never : true ≡ false → ⊥
-    never e = let z : _≡_ {A = ℕ} 0 1 = cc in omega arith
-
-module _ (s : State) (a b : MicroId) where
-  pub not-live : (isHeld (s .micros) a ≡ false) ⊎ ((isHeld (s .micros) b ≡ false) ⊎ (not (eqb (a .0) (b .0)) ≡ false)) → refuses 12 [] ≡ connectivityOf s a b
-  unfolding connectivityOf
-  not-live h = sym (rw (both-no (isHeld (s .micros) a) (isHeld (s .micros) b) (not (eqb (a .0) (b .0))) h))
-
-  pub live :
-      (wa wb v : Float) → isHeld (s .micros) a ≡ true → isHeld (s .micros) b ≡ true → a .0 ≢ b .0 →
-      wa ≡ storedWeight (s .micros) a → wb ≡ storedWeight (s .micros) b →
-      v ≡ ofLink (λ (l : Link). fadedLink (s .settings .lambda) (s .t) l ⊘ ((wa ⊕ wb) ⊘ two)) (absent (pairOf a b .0) (pairOf a b .1) (s .t)) (s .links) →
-      gives v ≡ connectivityOf s a b
-  unfolding connectivityOf
-  live wa wb v ha hb ne ea eb e =
-      ap gives (e ∙ ap₂ (λ (x y : Float). ofLink (λ (l : Link). fadedLink (s .settings .lambda) (s .t) l ⊘ ((x ⊕ y) ⊘ two)) (absent (pairOf a b .0) (pairOf a b .1) (s .t)) (s .links)) ea eb)
-      ∙ sym (rw (ha, hb, ne-eqb (a .0) (b .0) ne))
+    ms : List DbMicro
+    ms = take (s .count) (s .micros)

@@ -1,12 +1,14 @@
--- The tick of the arrays, seen through the view.
+-- The stream that an insert leaves, from what the links' loop, the clock and the cleanup give. Assumes nothing.
 use Prim.Native.Nat.{ℕ}
-use mathlib.Core.Path.{_≡_, sym, ap, _∙_}
-use mathlib.Core.List.{List, map}
+use mathlib.Core.Path.{_≡_, refl, sym, ap, ap₂, _∙_}
+use mathlib.Core.List.{List, [], map, foldl}
 use mathlib.Core.Bool.{Bool, true, false, cond}
+use lib.Ieee.{Float}
 use lib.ListN.{take}
 use Rattle.float.specs.Rounded.{_⊕_, one}
 use Rattle.lists.specs.Retain.{retain}
 use Rattle.drift.specs.declared.Nearest.{Nearest}
+use Rattle.drift.specs.declared.DriftMonitor.{DriftMonitor}
 use Rattle.drift.specs.Monitor as drift
 use Rattle.drift.specs.Monitor.{Monitor, observeOf}
 use Rattle.model.specs.declared.micro.MicroId.{MicroId}
@@ -14,63 +16,131 @@ use Rattle.model.specs.declared.micro.DbMicro.{DbMicro}
 use Rattle.model.specs.declared.link.Link.{Link}
 use Rattle.model.specs.Fading.{isMultiple}
 use Rattle.model.specs.DbState.{State}
-use Rattle.model.specs.DbInsert.{idOf, microStays, linkStays, cleanup, beat, tickOf}
+use Rattle.model.specs.DbInsert.{idOf, pairsOf, gainOf, microStays, linkStays, cleanup, beat, tickOf}
+use Rattle.micro.specs.declared.scan.Scan.{Scan}
 use Rattle.micro.specs.Held.{cutTo, held}
+use Rattle.micro.specs.Placing.{placedAmong, nextAfter}
 use Rattle.micro.specs.Views.{map-map, stays-view}
 use Rattle.link.specs.Among.{staysAmong, retain-among}
 use Rattle.dbstream.specs.declared.DbStream.{DbStream}
-use Rattle.dbstream.specs.Stream.{view, dimOf, settingsOf}
+use Rattle.dbstream.specs.Stream.{view, dimOf}
+use Rattle.dbstream.specs.Placed.{placedBy}
 
+-- ---- the cleanup
+module _ (s : DbStream) (n : ℕ) (ms : List DbMicro) (ids : List MicroId) (k : ℕ) (ls : List Link) where
+  -- s over these micro-clusters and links
+  abbrev over : List DbMicro → List Link → State
+  over kept bound =
+      record {
+        settings = view s .settings;
+        tGap = s .«t_gap»;
+        floor = s .floor;
+        t = s .t;
+        next = s .«next_id»;
+        micros = kept;
+        links = bound;
+        labels = view s .labels;
+        drift = view s .drift;
+      }
+
+  pub cleaned :
+      take n ms ≡ retain (microStays (s .lambda) (s .floor) (s .t)) (take (s .count) (s .micros)) → take n ids ≡ map idOf (take n ms) →
+      take k ls ≡ retain (staysAmong (s .lambda) (s .floor) (s .t) (take n ids)) (take (s .«link_count») (s .links)) →
+      over (held (dimOf s) n ms) (take k ls) ≡ cleanup (view s)
+  cleaned kept names bound =
+      ap (over (held (dimOf s) n ms)) links-are
+      ∙ ap (λ (q : List DbMicro). over q (retain (linkStays (s .lambda) (s .floor) (s .t) q) (view s .links))) micros-are
+    where
+      micros-are : held (dimOf s) n ms ≡ retain (microStays (s .lambda) (s .floor) (s .t)) (view s .micros)
+      micros-are = ap (map (cutTo (dimOf s))) kept ∙ stays-view (dimOf s) (s .lambda) (s .floor) (s .t) (take (s .count) (s .micros))
+
+      links-are : take k ls ≡ retain (linkStays (s .lambda) (s .floor) (s .t) (held (dimOf s) n ms)) (view s .links)
+      links-are =
+          bound
+          ∙ ap (λ (q : List MicroId). retain (staysAmong (s .lambda) (s .floor) (s .t) q) (view s .links)) (names ∙ sym (map-map idOf (cutTo (dimOf s)) (take n ms)))
+          ∙ retain-among (s .lambda) (s .floor) (s .t) (held (dimOf s) n ms) (view s .links)
+
+-- ---- the stream as the steps of an insert change it
+abbrev pub having : DbStream → (next : ℕ) → List DbMicro → (count : ℕ) → List Link → (links labels : ℕ) → (t : Float) → DriftMonitor → DbStream
+having s next ms count ls links labels t m =
+    record {
+      dim = s .dim;
+      r = s .r;
+      lambda = s .lambda;
+      alpha = s .alpha;
+      «min_weight» = s .«min_weight»;
+      «t_gap» = s .«t_gap»;
+      floor = s .floor;
+      t = t;
+      «next_id» = next;
+      micros = ms;
+      count = count;
+      links = ls;
+      «link_count» = links;
+      labels = s .labels;
+      «label_count» = labels;
+      drift = m;
+    }
+
+abbrev pub withMicros : DbStream → (next : ℕ) → List DbMicro → (count : ℕ) → DbStream
+withMicros s next ms count = having s next ms count (s .links) (s .«link_count») (s .«label_count») (s .t) (s .drift)
+
+abbrev pub withLinks : DbStream → List Link → DbStream
+withLinks s ls = having s (s .«next_id») (s .micros) (s .count) ls (s .«link_count») (s .«label_count») (s .t) (s .drift)
+
+-- u is s but for its links
+pub record Linked (s u : DbStream) : Type 0 where
+  pub rest : u ≡ withLinks s (u .links)
+
+pub linked-first : (s : DbStream) → Linked s s
+linked-first s = record { rest = refl }
+
+pub linked-next : (s u : DbStream) (ls : List Link) → Linked s u → Linked s (withLinks u ls)
+linked-next s u ls h = record { rest = ap (λ (v : DbStream). withLinks v ls) (h .rest) }
+
+-- the links that all gains make
+abbrev pub goal : DbStream → (lambda t : Float) → List MicroId → ℕ → List Link
+goal s lambda t ids k = foldl (gainOf lambda t) (take (s .«link_count») (s .links)) (pairsOf (take k ids))
+
+-- u is s with the point in its micro-clusters and with the loop's links, of which n are held; m and time are the clock's
+module _ (s : DbStream) (f : Scan) (x : List Float) (near : Nearest) (next : ℕ) (ms : List DbMicro) (count : ℕ) (u : DbStream) (n : ℕ) (time : Float) (m : DriftMonitor) where
+  pub beaten :
+      take count ms ≡ placedAmong f (s .r) (s .lambda) (s .t) (s .«next_id») x (s .count) (take (s .count) (s .micros)) → next ≡ nextAfter f (s .count) (s .«next_id») →
+      u ≡ withLinks (withMicros s next ms count) (u .links) → take n (u .links) ≡ goal s (s .lambda) (s .t) (f .ids) (f .count) → time ≡ s .t ⊕ one → drift.view m ≡ observeOf (drift.view (s .drift)) near (s .t) →
+      view (having u (u .«next_id») (u .micros) (u .count) (u .links) n 0 time m) ≡ beat (placedBy s f x) near
+  beaten placed numbered is gained later seen =
+      ap (λ (v : DbStream). view (having v (v .«next_id») (v .micros) (v .count) (u .links) n 0 time m)) is
+      ∙ ap (λ (ls : List Link). at next (held (dimOf s) count ms) ls time (drift.view m)) gained
+      ∙ ap (λ (l : List DbMicro). at next (map (cutTo (dimOf s)) l) links time (drift.view m)) placed
+      ∙ ap (λ (q : ℕ). at q micros links time (drift.view m)) numbered
+      ∙ ap₂ (at (nextAfter f (s .count) (s .«next_id»)) micros links) later seen
+    where
+      links : List Link
+      links = goal s (s .lambda) (s .t) (f .ids) (f .count)
+
+      micros : List DbMicro
+      micros = map (cutTo (dimOf s)) (placedAmong f (s .r) (s .lambda) (s .t) (s .«next_id») x (s .count) (take (s .count) (s .micros)))
+
+      at : ℕ → List DbMicro → List Link → Float → Monitor → State
+      at number held bound t monitor =
+          record {
+            settings = view s .settings;
+            tGap = s .«t_gap»;
+            floor = s .floor;
+            t = t;
+            next = number;
+            micros = held;
+            links = bound;
+            labels = [];
+            drift = monitor;
+          }
+
+-- ---- the tick: its clock, then its cleanup where one is due
 module _ (s : State) (near : Nearest) where
-  tick-still : isMultiple (beat s near .t) (s .tGap) ≡ false → beat s near ≡ tickOf s near
+  pub tick-still : isMultiple (s .t ⊕ one) (s .tGap) ≡ false → beat s near ≡ tickOf s near
   unfolding tickOf
   tick-still e = sym (ap (λ (b : Bool). cond b (cleanup (beat s near)) (beat s near)) e)
 
-  tick-cleans : isMultiple (beat s near .t) (s .tGap) ≡ true → cleanup (beat s near) ≡ tickOf s near
+  pub tick-cleans : isMultiple (s .t ⊕ one) (s .tGap) ≡ true → cleanup (beat s near) ≡ tickOf s near
   unfolding tickOf
   tick-cleans e = sym (ap (λ (b : Bool). cond b (cleanup (beat s near)) (beat s near)) e)
-
-module _ (s : DbStream) (near : Nearest) (m : Monitor) (seen : m ≡ observeOf (drift.view (s .drift)) near (s .t)) where
-  -- the clock has grown, over these micro-clusters and links
-  abbrev at : List DbMicro → List Link → Monitor → State
-  at ms ls monitor =
-      record {
-        settings = settingsOf s;
-        tGap = s .«t_gap»;
-        floor = s .floor;
-        t = s .t ⊕ one;
-        next = s .«next_id»;
-        micros = ms;
-        links = ls;
-        labels = take (s .«label_count») (s .labels);
-        drift = monitor;
-      }
-
-  pub still : isMultiple (s .t ⊕ one) (s .«t_gap») ≡ false → at (view s .micros) (view s .links) m ≡ tickOf (view s) near
-  still due = ap (at (view s .micros) (view s .links)) seen ∙ tick-still (view s) near due
-
-  module _ (n : ℕ) (ms : List DbMicro) (ids : List MicroId) (k : ℕ) (ls : List Link) where
-    pub cleaned :
-        isMultiple (s .t ⊕ one) (s .«t_gap») ≡ true →
-        take n ms ≡ retain (microStays (s .lambda) (s .floor) (s .t ⊕ one)) (take (s .count) (s .micros)) →
-        take n ids ≡ map idOf (take n ms) →
-        take k ls ≡ retain (staysAmong (s .lambda) (s .floor) (s .t ⊕ one) (take n ids)) (take (s .«link_count») (s .links)) →
-        at (held (dimOf s) n ms) (take k ls) m ≡ tickOf (view s) near
-    cleaned due kept names bound =
-        ap (at (held (dimOf s) n ms) (take k ls)) seen
-        ∙ ap (λ (q : List Link). at (held (dimOf s) n ms) q after) links-are
-        ∙ ap (λ (q : List DbMicro). at q (retain (linkStays (s .lambda) (s .floor) (s .t ⊕ one) q) (view s .links)) after) micros-are
-        ∙ tick-cleans (view s) near due
-      where
-        after : Monitor
-        after = observeOf (drift.view (s .drift)) near (s .t)
-
-        micros-are : held (dimOf s) n ms ≡ retain (microStays (s .lambda) (s .floor) (s .t ⊕ one)) (view s .micros)
-        micros-are =
-            ap (map (cutTo (dimOf s))) kept ∙ stays-view (dimOf s) (s .lambda) (s .floor) (s .t ⊕ one) (take (s .count) (s .micros))
-
-        links-are : take k ls ≡ retain (linkStays (s .lambda) (s .floor) (s .t ⊕ one) (held (dimOf s) n ms)) (view s .links)
-        links-are =
-            bound
-            ∙ ap (λ (q : List MicroId). retain (staysAmong (s .lambda) (s .floor) (s .t ⊕ one) q) (view s .links)) (names ∙ sym (map-map idOf (cutTo (dimOf s)) (take n ms)))
-            ∙ retain-among (s .lambda) (s .floor) (s .t ⊕ one) (held (dimOf s) n ms) (view s .links)

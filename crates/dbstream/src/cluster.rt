@@ -1,6 +1,5 @@
 // Families: strong micro-clusters, joined by dense links.
 use crate::DbStream;
-use joins::joined;
 use model::MICROS;
 ghost use mathlib.Core.Path.{_≡_};
 ghost use Rattle.model.specs.DbCluster.{clusterOf};
@@ -19,12 +18,7 @@ impl DbStream {
         let ids = micro::ids_of(micros, n);
         let dense = self.alpha * self.min_weight;
         let links = self.links;
-        let pairs = joined(links, self.link_count, ids, strong, n, lambda, t, dense);
-        let a = pairs.a;
-        let b = pairs.b;
-        let k = pairs.count;
-        let roots = union_find::roots(&a[..k], &b[..k], n);
-        let labels = labels::labels(roots, strong, n);
+        let labels = joins::labels_of(links, self.link_count, ids, strong, n, lambda, t, dense);
         self.labels = labels;
         self.label_count = n;
         self

@@ -4,19 +4,17 @@ use feature::MAX_DIM;
 use link::Factor;
 use link::Pass;
 use micro::Scan;
-use model::CLOCK;
+use model::Clock;
 use model::Insertion;
 use model::MICROS;
-use model::MicroId;
-ghost use Prim.Native.Nat.{_≤_, _<_, min};
+ghost use Prim.Native.Nat.{_≤_};
 ghost use mathlib.Core.Path.{_≡_};
 ghost use mathlib.Core.Logic.{_≢_};
-ghost use mathlib.Core.Bool.{not, _||_};
+ghost use mathlib.Core.Bool.{false, not, _||_, cond};
 ghost use lib.Dec.{eqb, ltb};
 ghost use lib.ListN.{take};
 ghost use Rattle.model.specs.Limits.{microsMost};
 ghost use Rattle.model.specs.Answers.{insertionNumber};
-ghost use Rattle.model.specs.Questions.{insertionAsked};
 ghost use Rattle.model.specs.DbInsert.{tickOf, insertOf};
 ghost use Rattle.dbstream.specs.Stream.{view, insertedTold};
 ghost use Rattle.dbstream.specs.Placed.{placedBy};
@@ -27,87 +25,59 @@ pub struct Inserted {
     pub stream: DbStream,
 }
 
-// The questions in order: absorbing is how many neighbours the point has, held how many micro-clusters there are.
-fn asked(dim: usize, got: usize, t: f64, absorbing: usize, held: usize) -> Insertion
-    ensures { λ r. ⌜ r ≡ insertionAsked dim got t (not (eqb absorbing 0) || ltb held microsMost) ⌝ }
+// Whether the point would be absorbed, or fewer than 64 micro-clusters are held.
+fn has_place(absorbing: usize, held: usize) -> bool
+    ensures { λ r. ⌜ r ≡ (not (eqb absorbing 0) || ltb held microsMost) ⌝ }
 {
-    if got != dim {
-        return Insertion::Shape { expected: dim, got };
-    }
-    if !(t < CLOCK) {
-        return Insertion::ClockAtLimit;
-    }
-    if absorbing == 0 {
-        if MICROS <= held {
-            return Insertion::NoPlace;
-        }
-    }
-    Insertion::Done
-}
-
-fn is_done(answer: Insertion) -> bool
-    ensures { λ r. ⌜ r ≡ eqb (insertionNumber answer) 0 ⌝ }
-{
-    match answer {
-        Insertion::Done => true,
-        Insertion::Shape {
-            expected: _,
-            got: _,
-        } => false,
-        Insertion::ClockAtLimit => false,
-        Insertion::NoPlace => false,
-    }
+    if absorbing == 0 { held < MICROS } else { true }
 }
 
 impl DbStream {
-    // Neighbours absorb the point and their links gain; with none, it is a new micro-cluster. Then the clock ticks.
-    // Both loops stand here, where the arrays are owned: a function of its own for each would copy the stream once more.
-    fn taken(mut self, scan: Scan, x: [f64; MAX_DIM], dim: usize) -> Self
-        requires { ⌜ (scan .count ≤ microsMost) × (scan .count ≡ 0 → min (self .count) microsMost < microsMost) ⌝ }
-        ensures { λ r. ⌜ view r ≡ tickOf (placedBy self scan (take dim x)) (scan .nearest) ⌝ }
+    // Unless the point is refused it joins the micro-clusters, the links of its neighbours gain, and the clock ticks.
+    // The links' loop stands here, where their array is owned, and a refused stream goes this way too: each saves a copy of the links.
+    fn taken(mut self, done: bool, scan: Scan, x: [f64; MAX_DIM], dim: usize) -> Self
+        requires { ⌜ scan .count ≤ microsMost ⌝ }
+        ensures { λ r. ⌜ view r ≡ cond done (tickOf (placedBy self scan (take dim x)) (scan .nearest)) (view self) ⌝ }
+        ensures kept { λ r. ⌜ (done ≡ false → r ≡ self) ⌝ }
     {
-        let n = lists::cut(self.count, MICROS);
-        let k = scan.count;
+        if !done {
+            return self;
+        }
         let t = self.t;
         let lambda = self.lambda;
-        if k == 0 {
-            let id = self.next_id;
-            let m = micro::newborn(x, dim, t, MicroId(id));
-            self.micros[n] = m;
-            self.count = n + 1;
-            self.next_id = std::num::wrapping_add_u64(id, 1);
-        } else {
-            let r2 = self.r * self.r;
-            let ds = scan.distances;
-            let mut i = 0;
-            while i < n {
-                if ds[i] <= r2 {
-                    let m = self.micros[i];
-                    self.micros[i] = micro::absorbed(m, x, dim, lambda, t);
-                }
-                i += 1;
-            }
-            self.count = n;
-        }
+        let n = self.count;
+        let id = self.next_id;
+        let micros = self.micros;
+        let p = micro::with_point(micros, n, id, scan, x, dim, self.r, lambda, t);
+        let grown = p.micros;
+        self.micros = grown;
+        self.count = p.count;
+        self.next_id = p.next_id;
         let ids = scan.ids;
         let mut f = Factor::new(lambda, t, t);
         let mut pass = Pass::first(ids, self.link_count, t);
-        while pass.walk.j < k {
+        while pass.walk.j < scan.count {
             let q = pass.place();
             let l = self.links[q];
-            let turn = pass.turn(l, f, lambda, t);
-            let new = turn.link;
+            let step = pass.step(l, f, ids, scan.count, lambda, t);
+            let new = step.link;
             self.links[q] = new;
-            f = turn.factor;
-            pass = turn.pass;
-            if turn.gained {
-                pass = pass.next(ids, k, t);
-            }
+            f = step.factor;
+            pass = step.pass;
         }
         self.link_count = pass.count;
         self.label_count = 0;
+        let drift = self.drift;
+        let clock = Clock::at(t, self.t_gap, drift);
         let near = scan.nearest;
-        self.tick(near)
+        let ticked = clock.tick(near);
+        let seen = ticked.drift;
+        self.t = ticked.t;
+        self.drift = seen;
+        if ticked.due {
+            return self.cleaned();
+        }
+        self
     }
 
     pub fn try_insert(self, x: &[f64]) -> Inserted
@@ -119,12 +89,9 @@ impl DbStream {
         let p = model::padded(x);
         let micros = self.micros;
         let scan = micro::scan_for(micros, n, p, dim, self.r);
-        let answer = asked(dim, x.len(), self.t, scan.count, n);
-        if !is_done(answer) {
-            let stream = self;
-            return Inserted { answer, stream };
-        }
-        let stream = self.taken(scan, p, dim);
+        let place = has_place(scan.count, n);
+        let answer = model::insertion_asked(dim, x.len(), self.t, place);
+        let stream = self.taken(answer.is_done(), scan, p, dim);
         Inserted { answer, stream }
     }
 }

@@ -1,9 +1,9 @@
 // DBSTREAM (Hahsler and Bolaños): micro-clusters that fade, joined by shared density.
+mod cleanup;
 mod cluster;
 mod insert;
 mod opening;
 mod reading;
-mod tick;
 
 use drift::DriftMonitor;
 pub use insert::Inserted;

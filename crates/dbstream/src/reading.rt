@@ -85,28 +85,14 @@ impl DbStream {
     pub fn connectivity(self, a: MicroId, b: MicroId) -> Connectivity
         ensures { λ r. ⌜ connectivitySaid r ≡ connectivityOf (view self) a b ⌝ }
     {
+        let n = self.count;
         let micros = self.micros;
-        let ids = micro::ids_of(micros, self.count);
-        if link::is_among(ids, self.count, a) {
-            if link::is_among(ids, self.count, b) {
-                if a.0 != b.0 {
-                    let wa = micro::stored_weight(micros, self.count, a);
-                    let wb = micro::stored_weight(micros, self.count, b);
-                    let mean = (wa + wb) / 2.0;
-                    let links = self.links;
-                    let density = link::connectivity(
-                        links,
-                        self.link_count,
-                        a,
-                        b,
-                        mean,
-                        self.lambda,
-                        self.t,
-                    );
-                    return Connectivity::Density(density);
-                }
-            }
-        }
-        Connectivity::NotLive
+        let ids = micro::ids_of(micros, n);
+        let wa = micro::stored_weight(micros, n, a);
+        let wb = micro::stored_weight(micros, n, b);
+        let mean = (wa + wb) / 2.0;
+        let links = self.links;
+        let lambda = self.lambda;
+        link::connectivity(links, self.link_count, ids, n, a, b, mean, lambda, self.t)
     }
 }

@@ -1,4 +1,4 @@
-// The pairs of places of strong micro-clusters that dense links join.
+// The places of strong micro-clusters that dense links join, and the labels that this gives.
 use model::LINKS;
 use model::Link;
 use model::MICROS;
@@ -10,6 +10,7 @@ ghost use lib.Ieee.{le};
 ghost use lib.ListN.{take, getD};
 ghost use Rattle.union_find.specs.Pairs.{pairsOf};
 ghost use Rattle.model.specs.Limits.{linksMost};
+ghost use Rattle.model.specs.Families.{labelsBy};
 ghost use Rattle.model.specs.DbInsert.{fadedLink};
 ghost use Rattle.joins.specs.Joined.{placeAmong, joinedBy};
 
@@ -59,15 +60,15 @@ fn joins(
     false
 }
 
-// The first count of a and of b.
-pub struct Pairs {
-    pub a: [usize; LINKS],
-    pub b: [usize; LINKS],
-    pub count: usize,
+// Pairs of places: the first count of a and of b.
+struct Pairs {
+    a: [usize; LINKS],
+    b: [usize; LINKS],
+    count: usize,
 }
 
 // In the order of the links.
-pub fn joined(
+fn joined(
     links: [Link; LINKS],
     count: usize,
     ids: [MicroId; MICROS],
@@ -100,4 +101,26 @@ pub fn joined(
         q += 1;
     }
     Pairs { a, b, count: k }
+}
+
+// The labels of the first n: by first member where strong, −1 elsewhere.
+pub fn labels_of(
+    links: [Link; LINKS],
+    count: usize,
+    ids: [MicroId; MICROS],
+    strong: [bool; MICROS],
+    n: usize,
+    lambda: f64,
+    t: f64,
+    dense: f64,
+) -> [i64; MICROS]
+    ensures { λ r. ⌜ take n r ≡ labelsBy (take n strong) (joinedBy (take n ids) (take n strong) lambda t dense (take count links)) ⌝ }
+{
+    let held = lists::cut(n, MICROS);
+    let pairs = joined(links, count, ids, strong, held, lambda, t, dense);
+    let a = pairs.a;
+    let b = pairs.b;
+    let k = pairs.count;
+    let roots = union_find::roots(&a[..k], &b[..k], held);
+    labels::labels(roots, strong, held)
 }

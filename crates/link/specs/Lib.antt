@@ -5,3 +5,4 @@ pub mod Factor
 pub mod Pass
 pub mod Passing
 pub mod Among
+pub mod Between

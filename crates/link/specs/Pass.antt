@@ -11,6 +11,7 @@ use Rattle.model.specs.DbInsert.{gains, before, sameEnds}
 use Rattle.link.specs.declared.factor.Factor.{Factor}
 use Rattle.link.specs.declared.pass.Pass.{Pass}
 use Rattle.link.specs.declared.pass.Turn.{Turn}
+use Rattle.link.specs.declared.pass.Step.{Step}
 use Rattle.link.specs.Walk.{firstOf, nextOf}
 
 abbrev pub passFrom : List MicroId → (count : ℕ) (t : Float) → Pass
@@ -56,3 +57,9 @@ turnOf lambda t s l f = cond (s .carries) (carriedOf s l f) (lookedOf lambda t s
 
 abbrev pub nextPass : List MicroId → (k : ℕ) (t : Float) → Pass → Pass
 nextPass ids k t s = record { walk = nextOf ids k t (s .walk); count = s .count; carries = s .carries; carry = s .carry; at = s .at }
+
+-- a turn, and on to the next pair where this one has had its gain
+abbrev pub stepOf : (lambda t : Float) → List MicroId → (k : ℕ) → Pass → Link → Factor → Step
+stepOf lambda t ids k s l f =
+    let r : Turn = turnOf lambda t s l f in
+    record { link = r .link; pass = cond (r .gained) (nextPass ids k t (r .pass)) (r .pass); factor = r .factor }

@@ -1,6 +1,6 @@
 -- The pass through the pairs and the links: what holds before each turn, and that each turn keeps it. Assumes nothing.
 --     starts    before the first turn
---     turned    a turn, and the step to the next pair where the pair has had its gain
+--     stepped   a turn, and on to the next pair where this one has had its gain
 --     ends      no pair is left: every gain is made
 use Prim.Native.Nat.{ℕ, _+_, _-_, _*_, _≤_, _<_, min}
 use native.Mathlib.Omega.{arith}
@@ -23,9 +23,10 @@ use Rattle.link.specs.declared.factor.Factor.{Factor}
 use Rattle.link.specs.declared.walk.Walk.{Walk}
 use Rattle.link.specs.declared.pass.Pass.{Pass}
 use Rattle.link.specs.declared.pass.Turn.{Turn}
+use Rattle.link.specs.declared.pass.Step.{Step}
 use Rattle.link.specs.Walk.{nextOf}
 use Rattle.link.specs.Passed.{Absent}
-use Rattle.link.specs.Pass.{passFrom, placeOf, carriedOf, passedOf, insertedOf, lookedOf, turnOf, nextPass}
+use Rattle.link.specs.Pass.{passFrom, placeOf, carriedOf, passedOf, insertedOf, lookedOf, turnOf, nextPass, stepOf}
 use Rattle.link.specs.Walking.{Walking, pairsLeft, start, step-before, step-same, step-after, step-full, less-next, absent-at, absent-end, end}
 
 -- a link is on its way up: put in at its place, it makes the list from which the walk goes on
@@ -60,11 +61,11 @@ never e = absurd (true≢false (sym e))
 
 module _ (lambda t : Float) (ids : List MicroId) (k : ℕ) (goal ls : List Link) (s : Pass) where
   -- ls′ and v are kept, and nearer to the end
-  abbrev Kept : (ls′ : List Link) (v : Pass) → Type 0
+  abbrev pub Kept : (ls′ : List Link) (v : Pass) → Type 0
   Kept ls′ v = Passing lambda t ids k goal ls′ v × (toGo ids k v < toGo ids k s)
 
   -- after a turn, or, where the pair has had its gain, at the next pair
-  abbrev pub Goes : (q : ℕ) → Turn → Type 0
+  abbrev Goes : (q : ℕ) → Turn → Type 0
   Goes q r = (r .gained ≡ false → Kept (set ls q (r .link)) (r .pass)) × (r .gained ≡ true → Kept (set ls q (r .link)) (nextPass ids k t (r .pass)))
 
   module _ (z : Link) (g : Factor) (q : ℕ) where
@@ -172,7 +173,7 @@ module _ (lambda t : Float) (ids : List MicroId) (k : ℕ) (goal ls : List Link)
             )),
           )
 
-  pub turned :
+  turned :
       Passing lambda t ids k goal ls s → s .walk .j < k → (z : Link) (g : Factor) (q : ℕ) → q ≡ placeOf s → (r : Turn) → r ≡ turnOf lambda t s (getD ls q z) g → Goes q r
   turned (inl p) live z g q eq r er =
       subst (Goes q) (sym (er ∙ ap (λ (c : Bool). cond c (carriedOf s (getD ls q z) g) (lookedOf lambda t s (getD ls q z) g)) (p .0)))
@@ -188,6 +189,20 @@ module _ (lambda t : Float) (ids : List MicroId) (k : ℕ) (goal ls : List Link)
     where
       small : (m : ℕ) → m < linksMost → min m (linksMost - 1) ≡ m
       small m h = omega arith
+
+  pub stepped :
+      Passing lambda t ids k goal ls s → s .walk .j < k → (z : Link) (g : Factor) (q : ℕ) → q ≡ placeOf s → (r : Step) → r ≡ stepOf lambda t ids k s (getD ls q z) g → Kept (set ls q (r .link)) (r .pass)
+  stepped p live z g q eq r er = subst (λ (v : Step). Kept (set ls q (v .link)) (v .pass)) (sym er) (go (u .gained) refl)
+    where
+      u : Turn
+      u = turnOf lambda t s (getD ls q z) g
+
+      both : Goes q u
+      both = turned p live z g q eq u refl
+
+      go : (b : Bool) → u .gained ≡ b → Kept (set ls q (u .link)) (cond b (nextPass ids k t (u .pass)) (u .pass))
+      go true e = both .1 e
+      go false e = both .0 e
 
   pub ends : Passing lambda t ids k goal ls s → k ≤ s .walk .j → take (s .count) ls ≡ goal
   ends (inl p) h = end (p .1) h

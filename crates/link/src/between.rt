@@ -1,8 +1,11 @@
 // The link between two micro-clusters.
 use crate::order::key_of;
 use crate::order::same_ends;
+use crate::stay::is_among;
+use model::Connectivity;
 use model::LINKS;
 use model::Link;
+use model::MICROS;
 use model::MicroId;
 ghost use mathlib.Core.Path.{_≡_};
 ghost use lib.ListN.{take};
@@ -10,9 +13,11 @@ ghost use Rattle.float.specs.Rounded.{_⊘_};
 ghost use Rattle.model.specs.declared.link.Link as held;
 ghost use Rattle.model.specs.DbInsert.{fadedLink, absent, pairOf};
 ghost use Rattle.model.specs.DbCluster.{ofLink};
+ghost use Rattle.model.specs.Answers.{connectivitySaid};
+ghost use Rattle.link.specs.Between.{connectivityAmong};
 
 // The faded link of a and b over the mean of their weights; 0 without a link.
-pub fn connectivity(
+fn density(
     links: [Link; LINKS],
     count: usize,
     a: MicroId,
@@ -34,4 +39,28 @@ pub fn connectivity(
         i += 1;
     }
     0.0
+}
+
+// What a pair of creation numbers is told: both must be among the first n, and different.
+pub fn connectivity(
+    links: [Link; LINKS],
+    count: usize,
+    ids: [MicroId; MICROS],
+    n: usize,
+    a: MicroId,
+    b: MicroId,
+    mean: f64,
+    lambda: f64,
+    t: f64,
+) -> Connectivity
+    ensures { λ r. ⌜ connectivitySaid r ≡ connectivityAmong (take n ids) a b mean lambda t (take count links) ⌝ }
+{
+    if is_among(ids, n, a) {
+        if is_among(ids, n, b) {
+            if a.0 != b.0 {
+                return Connectivity::Density(density(links, count, a, b, mean, lambda, t));
+            }
+        }
+    }
+    Connectivity::NotLive
 }

@@ -9,7 +9,6 @@ mod walk;
 pub use between::connectivity;
 pub use factor::Factor;
 pub use pass::Pass;
-pub use pass::Turn;
+pub use pass::Step;
 pub use stay::Links;
-pub use stay::is_among;
 pub use stay::retained;

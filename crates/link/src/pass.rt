@@ -9,7 +9,7 @@ use model::MICROS;
 use model::MicroId;
 ghost use mathlib.Core.Path.{_≡_};
 ghost use Rattle.link.specs.Factor.{Right, gainsBy};
-ghost use Rattle.link.specs.Pass.{passFrom, placeOf, carriedOf, insertedOf, turnOf, nextPass};
+ghost use Rattle.link.specs.Pass.{passFrom, placeOf, carriedOf, insertedOf, turnOf, nextPass, stepOf};
 
 // How far the pairs and the links are walked, and how many links there are; `carries` says that
 // `carry` is on its way up the list, and `at` where to.
@@ -22,9 +22,16 @@ pub struct Pass {
 }
 
 // A turn: the link that now stands at the place, and whether the pair has had its gain.
-pub struct Turn {
+struct Turn {
+    link: Link,
+    gained: bool,
+    pass: Pass,
+    factor: Factor,
+}
+
+// A step: the link that now stands at the place, and how the pass goes on.
+pub struct Step {
     pub link: Link,
-    pub gained: bool,
     pub pass: Pass,
     pub factor: Factor,
 }
@@ -133,7 +140,7 @@ impl Pass {
     }
 
     // l is the link at the place: it is passed, or it gains, or the pair's link goes there.
-    pub fn turn(self, l: Link, factor: Factor, lambda: f64, t: f64) -> Turn
+    fn turn(self, l: Link, factor: Factor, lambda: f64, t: f64) -> Turn
         ensures { λ r. ⌜ (Right lambda t factor → Right lambda t (r .factor) × (r ≡ turnOf lambda t self l (r .factor))) ⌝ }
     {
         if self.carries {
@@ -166,11 +173,33 @@ impl Pass {
     }
 
     // At the next pair.
-    pub fn next(self, ids: [MicroId; MICROS], k: usize, t: f64) -> Pass
+    fn next(self, ids: [MicroId; MICROS], k: usize, t: f64) -> Pass
         ensures { λ r. ⌜ r ≡ nextPass ids k t self ⌝ }
     {
         let w = self.walk;
         let walk = w.next(ids, k, t);
         Pass { walk, ..self }
+    }
+
+    // A turn, and on to the next pair where this one has had its gain.
+    pub fn step(
+        self,
+        l: Link,
+        factor: Factor,
+        ids: [MicroId; MICROS],
+        k: usize,
+        lambda: f64,
+        t: f64,
+    ) -> Step
+        ensures { λ r. ⌜ (Right lambda t factor → Right lambda t (r .factor) × (r ≡ stepOf lambda t ids k self l (r .factor))) ⌝ }
+    {
+        let turn = self.turn(l, factor, lambda, t);
+        let link = turn.link;
+        let mut pass = turn.pass;
+        let factor = turn.factor;
+        if turn.gained {
+            pass = pass.next(ids, k, t);
+        }
+        Step { link, pass, factor }
     }
 }

@@ -1,5 +1,6 @@
 pub mod Held
 pub mod Near
+pub mod Placing
 pub mod Absorbing
 pub mod Scanned
 pub mod Views

@@ -1,16 +1,14 @@
 -- What is done to the micro-clusters of an array is done to those of dim coordinates that they are. Assumes nothing.
-use Prim.Native.Nat.{ℕ, _+_, _≤_, _<_}
-use native.Mathlib.Numerals.{add-one}
+use Prim.Native.Nat.{ℕ, _≤_}
 use mathlib.Core.Path.{_≡_, refl, sym, ap, ap₂, _∙_}
-use mathlib.Core.List.{List, [], _∷_, _++_, map}
+use mathlib.Core.List.{List, [], _∷_, map}
 use mathlib.Core.Bool.{Bool, true, false, cond}
 use lib.Dec.{eqb}
 use lib.Ieee.{Float}
-use lib.ListN.{length, take, set}
-use lib.Seq.{take-suc-set}
+use lib.ListN.{length}
 use Rattle.float.specs.Rounded.{_⊗_}
 use Rattle.lists.specs.Retain.{retain}
-use Rattle.lists.specs.Maps.{map-append, map-retain}
+use Rattle.lists.specs.Maps.{map-retain}
 use Rattle.feature.specs.declared.spherical.Spherical.{Spherical}
 use Rattle.feature.specs.Feature.{maxDim, empty, decayed, pushed}
 use Rattle.feature.specs.Fade.{fadeOf}
@@ -53,11 +51,6 @@ module _ (d : ℕ) (x : List Float) (e : length x ≡ d) where
   pub newborn-view : d ≤ maxDim → (t : Float) (id : MicroId) → cutTo d (newborn maxDim id t x) ≡ newborn d id t x
   newborn-view h t id =
       ap (λ (s : Spherical). record { cf = s; last = t; id = id }) (pushed-within d (empty maxDim) x e ∙ ap (λ (s : Spherical). pushed s x) (empty-within d h))
-
--- a new one at the end
-pub appended :
-    (d n : ℕ) (l : List DbMicro) (m : DbMicro) → n < length l → map (cutTo d) (take (n + 1) (set l n m)) ≡ map (cutTo d) (take n l) ++ cutTo d m ∷ []
-appended d n l m h = rw (add-one, take-suc-set l n m) (map-append (cutTo d) (take n l) (m ∷ []))
 
 -- ---- the cleanup
 pub stays-view : (d : ℕ) (lambda floor t : Float) (l : List DbMicro) → map (cutTo d) (retain (microStays lambda floor t) l) ≡ retain (microStays lambda floor t) (map (cutTo d) l)

@@ -6,8 +6,8 @@ mod identity;
 mod scan;
 mod weight;
 
-pub use absorption::absorbed;
-pub use absorption::newborn;
+pub use absorption::Placed;
+pub use absorption::with_point;
 pub use cleanup::Micros;
 pub use cleanup::retained;
 pub use distance::distances;

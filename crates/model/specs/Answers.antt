@@ -36,6 +36,9 @@ insertionNumber (Shape expected got) = 7
 insertionNumber ClockAtLimit = 8
 insertionNumber NoPlace = 9
 
+abbrev pub isDone : Insertion → Bool
+isDone a = eqb (insertionNumber a) 0
+
 -- "with expected and got as in `ShapeError`"
 abbrev pub insertionValues : Insertion → List ℕ
 insertionValues Done = []

@@ -4,11 +4,13 @@ pub mod Answers
 pub mod Questions
 pub mod Any
 pub mod Fading
+pub mod Ticking
 pub mod Periods
 pub mod Nearest
 pub mod Families
 pub mod ReadOut
 pub mod Outcome
+pub mod InsertLaws
 pub mod Run
 pub mod DbState
 pub mod DbInsert

@@ -1,6 +1,6 @@
-// What a stream answers. The refusals' numbers stand in specs/Answers.
+// What a stream answers.
 ghost use mathlib.Core.Path.{_≡_};
-ghost use Rattle.model.specs.Answers.{isOpen};
+ghost use Rattle.model.specs.Answers.{openingNumber, insertionNumber, isOpen, isDone};
 
 // An opening's answer: the first question whose answer is no.
 pub enum Opening {
@@ -18,18 +18,25 @@ pub enum Opening {
 }
 
 impl Opening {
+    // The refusal's number, or 0.
+    pub fn number(self) -> u64
+        ensures { λ r. ⌜ r ≡ openingNumber self ⌝ }
+    {
+        match self {
+            Opening::Open => 0,
+            Opening::Dim => 1,
+            Opening::Radius => 2,
+            Opening::Lambda => 3,
+            Opening::Share => 4,
+            Opening::Weight => 5,
+            Opening::BetaMu => 6,
+        }
+    }
+
     pub fn is_open(self) -> bool
         ensures { λ r. ⌜ r ≡ isOpen self ⌝ }
     {
-        match self {
-            Opening::Open => true,
-            Opening::Dim => false,
-            Opening::Radius => false,
-            Opening::Lambda => false,
-            Opening::Share => false,
-            Opening::Weight => false,
-            Opening::BetaMu => false,
-        }
+        self.number() == 0
     }
 }
 
@@ -39,6 +46,29 @@ pub enum Insertion {
     Shape { expected: usize, got: usize },
     ClockAtLimit,
     NoPlace,
+}
+
+impl Insertion {
+    // The refusal's number, or 0.
+    pub fn number(self) -> u64
+        ensures { λ r. ⌜ r ≡ insertionNumber self ⌝ }
+    {
+        match self {
+            Insertion::Done => 0,
+            Insertion::Shape {
+                expected: _,
+                got: _,
+            } => 7,
+            Insertion::ClockAtLimit => 8,
+            Insertion::NoPlace => 9,
+        }
+    }
+
+    pub fn is_done(self) -> bool
+        ensures { λ r. ⌜ r ≡ isDone self ⌝ }
+    {
+        self.number() == 0
+    }
 }
 
 // A prediction's answer.

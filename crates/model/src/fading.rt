@@ -4,7 +4,7 @@ use feature::Spherical;
 ghost use mathlib.Core.Path.{_≡_};
 ghost use lib.ListN.{take};
 ghost use Rattle.feature.specs.Feature.{maxDim};
-ghost use Rattle.model.specs.Fading.{fadedTo, isMultiple, radiusOf};
+ghost use Rattle.model.specs.Fading.{fadedTo, radiusOf};
 ghost use Rattle.model.specs.Fading as doc;
 
 // A weight or a link's value, faded from last to t.
@@ -35,13 +35,6 @@ pub fn absorbing(
 {
     let old = cf.decay(feature::fade(lambda, t, last));
     old.push(x, dim)
-}
-
-// Whether the clock is a multiple of a period.
-pub fn is_multiple(t: f64, period: f64) -> bool
-    ensures { λ r. ⌜ r ≡ isMultiple t period ⌝ }
-{
-    t % period == 0.0
 }
 
 // The root of the mean squared deviation; 0 without a weight.

@@ -1,5 +1,6 @@
-// What both streams share: the limits, what is kept of a micro-cluster and of a link, the answers and the questions of an opening.
+// What both streams share: the limits, what is kept of a micro-cluster and of a link, the clock, the answers and the questions.
 mod answers;
+mod clock;
 mod fading;
 mod limits;
 mod link;
@@ -14,12 +15,12 @@ pub use answers::Insertion;
 pub use answers::Opening;
 pub use answers::Prediction;
 pub use answers::Reading;
+pub use clock::Clock;
+pub use clock::Ticked;
 pub use fading::absorbing;
 pub use fading::birth;
 pub use fading::faded;
-pub use fading::is_multiple;
 pub use fading::radius;
-pub use limits::CLOCK;
 pub use limits::LINKS;
 pub use limits::MICROS;
 pub use link::Link;
@@ -33,6 +34,4 @@ pub use periods::tp;
 pub use point::padded;
 pub use questions::asked;
 pub use questions::dim_in_range;
-pub use questions::lambda_in_range;
-pub use questions::positive;
-pub use questions::share_in_range;
+pub use questions::insertion_asked;

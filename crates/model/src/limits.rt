@@ -7,4 +7,4 @@ pub const MICROS: usize = 64;
 pub const LINKS: usize = 2016;
 
 // The clock at which no further point is taken.
-pub const CLOCK: f64 = 65535.0;
+pub(crate) const CLOCK: f64 = 65535.0;

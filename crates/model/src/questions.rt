@@ -1,8 +1,10 @@
-// The questions before a stream opens, each a test of its own.
+// The questions before a stream opens, each a test of its own, and before an insert.
+use crate::answers::Insertion;
 use crate::answers::Opening;
+use crate::limits::CLOCK;
 use feature::MAX_DIM;
 ghost use mathlib.Core.Path.{_≡_};
-ghost use Rattle.model.specs.Questions.{dimInRange, lambdaInRange, shareInRange, firstNo, questions};
+ghost use Rattle.model.specs.Questions.{dimInRange, lambdaInRange, shareInRange, firstNo, questions, insertionAsked};
 ghost use Rattle.model.specs.Questions as doc;
 
 pub fn dim_in_range(dim: usize) -> bool
@@ -12,14 +14,14 @@ pub fn dim_in_range(dim: usize) -> bool
 }
 
 // Finite and above 0.
-pub fn positive(x: f64) -> bool
+fn positive(x: f64) -> bool
     ensures { λ r. ⌜ r ≡ doc.positive x ⌝ }
 {
     if float::is_finite(x) { 0.0 < x } else { false }
 }
 
 // From 2 to the power -32 to 64.
-pub fn lambda_in_range(lambda: f64) -> bool
+fn lambda_in_range(lambda: f64) -> bool
     ensures { λ r. ⌜ r ≡ lambdaInRange lambda ⌝ }
 {
     if f64::from_bits(0x3df0_0000_0000_0000) <= lambda {
@@ -30,7 +32,7 @@ pub fn lambda_in_range(lambda: f64) -> bool
 }
 
 // beta or alpha: above 0 and at most 1.
-pub fn share_in_range(share: f64) -> bool
+fn share_in_range(share: f64) -> bool
     ensures { λ r. ⌜ r ≡ shareInRange share ⌝ }
 {
     if 0.0 < share { share <= 1.0 } else { false }
@@ -56,4 +58,20 @@ pub fn asked(dim: usize, radius: f64, lambda: f64, share: f64, weight: f64) -> O
         return Opening::Weight;
     }
     Opening::Open
+}
+
+// An insert's questions in order; place says whether the point would be absorbed or has a place.
+pub fn insertion_asked(dim: usize, got: usize, t: f64, place: bool) -> Insertion
+    ensures { λ r. ⌜ r ≡ insertionAsked dim got t place ⌝ }
+{
+    if got != dim {
+        return Insertion::Shape { expected: dim, got };
+    }
+    if !(t < CLOCK) {
+        return Insertion::ClockAtLimit;
+    }
+    if !place {
+        return Insertion::NoPlace;
+    }
+    Insertion::Done
 }

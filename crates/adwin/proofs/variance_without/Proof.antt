@@ -1,5 +1,4 @@
 use borrow.Author.Needs.{needs}
-use borrow.Author.Needs.{needs}
 use Rattle.adwin.proofs.variance_without.Statement.{statement}
 use Rattle.adwin.proofs.variance_without.Tie as tie
 

@@ -4,7 +4,6 @@ use native.Mathlib.Omega.{arith}
 use lib.ListN.{take, length-take, List·getD-eq-default}
 use lib.Seq.{getD-take}
 use borrow.Author.Needs.{needs}
-use borrow.Author.Needs.{needs}
 use Rattle.joins.proofs.is_strong.Statement.{statement}
 use Rattle.joins.proofs.is_strong.Tie as tie
 

@@ -1,6 +1,5 @@
 use mathlib.Core.Path.{sym, _∙_}
 use borrow.Author.Needs.{needs}
-use borrow.Author.Needs.{needs}
 use Rattle.joins.proofs.joins.Statement.{statement}
 use Rattle.joins.proofs.joins.Tie as tie
 

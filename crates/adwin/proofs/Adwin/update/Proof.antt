@@ -16,7 +16,6 @@ use mathlib.Core.Path.{_≡_, refl, sym, ap, _∙_}
 use mathlib.Core.Bool.{true, false, _&&_, true≢false}
 use Prim.Native.Nat.{ℕ}
 use borrow.Author.Needs.{needs}
-use borrow.Author.Needs.{needs}
 use Rattle.adwin.proofs.Adwin.update.Statement.{statement}
 use Rattle.adwin.proofs.Adwin.update.Tie as tie
 

@@ -1,9 +1,6 @@
-use mathlib.Core.Path.{_≡_, sym, _∙_}
-use native.Mathlib.Omega.{arith}
-use lib.ListN.{length, length-map}
-use lib.Seq.{length-take-le}
+use mathlib.Core.Path.{sym, _∙_}
+use lib.ListN.{length-map}
 use Rattle.dbstream.proofs.Labels.{clustered}
-use borrow.Author.Needs.{needs}
 use borrow.Author.Needs.{needs}
 use Rattle.dbstream.proofs.DbStream.cluster.Statement.{statement}
 use Rattle.dbstream.proofs.DbStream.cluster.Tie as tie
@@ -17,54 +14,19 @@ strong-ones-requires c κs = search needs
 ids-of-requires : tie.Need-ids-of-requires
 ids-of-requires c κs = search needs
 
-joined-requires : tie.Need-joined-requires
-joined-requires c κs = search needs
-
--- the arrays of the pairs have 2,016 places
-room-a : (c : tie.After-joined) → length (c .joined .result .a) ≡ 2016
-room-a c = sym (length-map (c .joined .result .a) _) ∙ c .joined .ok .1 .1 .0 .1 .0 .1
-
-room-b : (c : tie.After-joined) → length (c .joined .result .b) ≡ 2016
-room-b c = sym (length-map (c .joined .result .b) _) ∙ c .joined .ok .1 .1 .1 .0 .1 .0 .1
-
-array-share-prefix-a : tie.Need-array-share-prefix-a
-array-share-prefix-a c = omega (arith, room-a (c .before .before), c .before .before .joined .ensures .1)
-
-slice-aggregate-roots : tie.Need-slice-aggregate-roots
-slice-aggregate-roots c = sym (length-take-le _ (c .before .before .before .joined .result .a) (omega (arith, room-a (c .before .before .before), c .before .before .before .joined .ensures .1)))
-
-array-share-prefix-b : tie.Need-array-share-prefix-b
-array-share-prefix-b c = omega (arith, room-b (c .before .before .before), c .before .before .before .joined .ensures .1)
-
-slice-aggregate-roots-2 : tie.Need-slice-aggregate-roots-2
-slice-aggregate-roots-2 c = sym (length-take-le _ (c .before .before .before .before .joined .result .b) (omega (arith, room-b (c .before .before .before .before), c .before .before .before .before .joined .ensures .1)))
-
-roots-requires : tie.Need-roots-requires
-roots-requires c κs = search needs
-
-labels-requires : tie.Need-labels-requires
-labels-requires c κs = search needs
+labels-of-requires : tie.Need-labels-of-requires
+labels-of-requires c κs = search needs
 
 returns : tie.Need-returns
 returns c =
-    let e = c .before .before .before .before .before .before .before .before .before .before .before .before .before in
+    let e = c .before .before .before .before .before .before .before in
     let s = e .args .self in
-    clustered s (c .before .before .before .before .before .before .before .before .before .before .before .before .cut .result) (c .before .before .before .before .before .before .before .before .before .before .before .before .cut .ensures) (sym (length-map (s .micros) _) ∙ e .good .0 .1 .1 .1 .1 .1 .1 .1 .1 .1 .1 .1 .0 .1 .0 .1)
-    (c .before .before .before .before .before .before .before .before .before .before .«strong-ones» .result) (c .before .before .before .before .before .before .before .before .before .before .«strong-ones» .ensures) (c .before .before .before .before .before .before .before .before .before .«ids-of» .result) (c .before .before .before .before .before .before .before .before .before .«ids-of» .ensures)
-    _ (c .before .before .before .before .before .before .joined .ensures .0) (c .before .roots .result) (c .labels .result) (c .before .roots .ensures) (c .labels .ensures)
+    let n = c .before .before .before .before .before .before .cut in
+    let strong = c .before .before .before .before .strong-ones in
+    let ids = c .before .before .before .ids-of in
+    clustered s (n .result) (n .ensures) (sym (length-map (s .micros) _) ∙ e .good .0 .1 .1 .1 .1 .1 .1 .1 .1 .1 .1 .1 .0 .1 .0 .1) (strong .result) (strong .ensures) (ids .result) (ids .ensures) (c .labels-of .result) (c .labels-of .ensures)
 
 pub cluster-spec : {M : Type 1} → statement M
 cluster-spec =
     tie.close
-    (tie.spec
-    cut-requires
-    strong-ones-requires
-    ids-of-requires
-    joined-requires
-    array-share-prefix-a
-    slice-aggregate-roots
-    array-share-prefix-b
-    slice-aggregate-roots-2
-    roots-requires
-    labels-requires
-    returns)
+    (tie.spec cut-requires strong-ones-requires ids-of-requires labels-of-requires returns)

@@ -3,7 +3,6 @@ use Rattle.drift.specs.Monitor as drift
 use Rattle.dbstream.specs.Stream.{settings}
 use Rattle.dbstream.proofs.Openings.{fresh-is}
 use borrow.Author.Needs.{needs}
-use borrow.Author.Needs.{needs}
 use Rattle.dbstream.proofs.DbStream.fresh.Statement.{statement}
 use Rattle.dbstream.proofs.DbStream.fresh.Tie as tie
 

@@ -5,7 +5,6 @@ use Rattle.lists.specs.Maps.{map-length}
 use Rattle.micro.specs.Held.{cutTo}
 use Rattle.dbstream.specs.Stream.{dimOf}
 use borrow.Author.Needs.{needs}
-use borrow.Author.Needs.{needs}
 use Rattle.dbstream.proofs.DbStream.micro_count.Statement.{statement}
 use Rattle.dbstream.proofs.DbStream.micro_count.Tie as tie
 

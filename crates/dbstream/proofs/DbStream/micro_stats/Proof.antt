@@ -6,7 +6,6 @@ use Rattle.feature.specs.declared.spherical.Spherical.{Spherical}
 use Rattle.model.specs.ReadOut.{statisticsRead}
 use Rattle.dbstream.proofs.Readings.{features-are, weights-are}
 use borrow.Author.Needs.{needs}
-use borrow.Author.Needs.{needs}
 use Rattle.dbstream.proofs.DbStream.micro_stats.Statement.{statement}
 use Rattle.dbstream.proofs.DbStream.micro_stats.Tie as tie
 

@@ -3,7 +3,6 @@ use Rattle.model.specs.DbState.{asked}
 use Rattle.dbstream.specs.Stream.{view}
 use Rattle.dbstream.proofs.Openings.{opens, stays-shut}
 use borrow.Author.Needs.{needs}
-use borrow.Author.Needs.{needs}
 use Rattle.dbstream.proofs.DbStream.new.Statement.{statement}
 use Rattle.dbstream.proofs.DbStream.new.Tie as tie
 

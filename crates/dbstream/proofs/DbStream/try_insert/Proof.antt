@@ -1,8 +1,8 @@
-use mathlib.Core.Path.{refl, sym, _∙_}
+use mathlib.Core.Path.{sym, _∙_}
 use native.Mathlib.Omega.{arith}
-use borrow.Author.Tests.{not-true, not-false}
 use lib.ListN.{take, length-map}
-use Rattle.dbstream.proofs.Inserts.{Met, whole-point, free, no-refusal, refused, accepted}
+use Rattle.model.specs.InsertLaws.{point-is, given-back}
+use Rattle.dbstream.proofs.Inserts.{Met, inserted}
 use borrow.Author.Needs.{needs}
 use Rattle.dbstream.proofs.DbStream.try_insert.Statement.{statement}
 use Rattle.dbstream.proofs.DbStream.try_insert.Tie as tie
@@ -19,12 +19,6 @@ padded-requires c κs = search needs
 scan-for-requires : tie.Need-scan-for-requires
 scan-for-requires c κs = search needs
 
-asked-requires : tie.Need-asked-requires
-asked-requires c κs = search needs
-
-is-done-requires : tie.Need-is-done-requires
-is-done-requires c κs = search needs
-
 -- what is known once the micro-clusters are scanned
 met : (c : tie.After-scan-for) → Met (c .before .before .before .before .before .before .args .self) (c .before .before .before .before .before .before .args .x .now) (take (c .before .before .before .before .cut .result) (c .before .before .padded .result)) (c .before .before .before .before .cut .result) (c .before .before .before .cut2 .result) (c .scan-for .result)
 met c =
@@ -33,27 +27,33 @@ met c =
     let d = c .before .before .before .before .cut .ensures in
     record {
       coordinates = d;
-      point = λ ex. whole-point (e .args .x .now) (c .before .before .padded .result) (c .before .before .before .before .cut .result) ex (omega (arith, d)) (c .before .before .padded .ensures);
+      point = λ ex. point-is (e .args .x .now) (c .before .before .padded .result) (c .before .before .before .before .cut .result) ex (omega (arith, d)) (c .before .before .padded .ensures);
       held-is = c .before .before .before .cut2 .ensures;
       places = sym (length-map (s .micros) _) ∙ e .good .0 .1 .1 .1 .1 .1 .1 .1 .1 .1 .1 .1 .0 .1 .0 .1;
+      distances-places = sym (length-map (c .scan-for .result .distances) _) ∙ c .scan-for .ok .1 .1 .0 .1 .0 .1;
       ids-places = sym (length-map (c .scan-for .result .ids) _) ∙ c .scan-for .ok .1 .1 .1 .1 .0 .1 .0 .1;
       scanned = c .scan-for .ensures;
     }
 
-returns : tie.Need-returns
-returns c = (refused (met (c .before .before .before)) (c .before .before .asked .result) (c .before .before .asked .ensures) (sym (c .before .«is-done» .ensures) ∙ not-true _ (c .if1 .taken)), λ q. refl)
+has-place-requires : tie.Need-has-place-requires
+has-place-requires c κs = search needs
+
+insertion-asked-requires : tie.Need-insertion-asked-requires
+insertion-asked-requires c κs = search needs
+
+is-done-requires : tie.Need-is-done-requires
+is-done-requires c κs = search needs
 
 taken-requires : tie.Need-taken-requires
-taken-requires c κs =
-    let m = met (c .before .before .before) in
-    let done = sym (c .before .«is-done» .ensures) ∙ not-false _ (c .if1 .left) in
-    (m .scanned .places, λ z. omega (arith, m .held-is, free m (c .before .before .asked .result) (c .before .before .asked .ensures) done z))
+taken-requires c κs = met (c .before .before .before) .scanned .places
 
-returns-2 : tie.Need-returns-2
-returns-2 c =
-    let a = c .before .before .before .asked in
-    let done = sym (c .before .before .«is-done» .ensures) ∙ not-false _ (c .before .if1 .left) in
-    (accepted (met (c .before .before .before .before)) (a .result) (a .ensures) _ done (c .taken .ensures), λ q. absurd (q (no-refusal (a .result) done)))
+returns : tie.Need-returns
+returns c =
+    let m = met (c .before .before .before .before) in
+    let place = c .before .before .before .has-place in
+    let a = c .before .before .insertion-asked in
+    let done = c .before .is-done in
+    (inserted m (a .result) (place .result) (place .ensures) (a .ensures) (done .result) _ (done .ensures) (c .taken .ensures .0), given-back (a .result) (done .result) _ _ (done .ensures) (c .taken .ensures .1))
 
 pub try-insert-spec : {M : Type 1} → statement M
 try-insert-spec =
@@ -63,8 +63,8 @@ try-insert-spec =
     cut-requires-2
     padded-requires
     scan-for-requires
-    asked-requires
+    has-place-requires
+    insertion-asked-requires
     is-done-requires
-    returns
     taken-requires
-    returns-2)
+    returns)

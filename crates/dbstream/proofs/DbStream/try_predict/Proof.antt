@@ -7,9 +7,8 @@ use mathlib.Core.List.{List}
 use native.Mathlib.Omega.{arith}
 use lib.Ieee.{Float}
 use Rattle.micro.specs.Held.{held, distancesTo}
-use Rattle.dbstream.proofs.Inserts.{whole-point}
+use Rattle.model.specs.InsertLaws.{point-is}
 use Rattle.dbstream.proofs.Readings.{predict-shape, predicted}
-use borrow.Author.Needs.{needs}
 use borrow.Author.Needs.{needs}
 use Rattle.dbstream.proofs.DbStream.try_predict.Statement.{statement}
 use Rattle.dbstream.proofs.DbStream.try_predict.Tie as tie
@@ -36,7 +35,7 @@ returns-2 c =
     let a = c .before .before .before .before .before .before .before .before .before .args in
     let s = a .self in
     let d = c .before .before .before .before .before .before .before .cut .ensures in
-    let y = whole-point (a .x .now) (c .before .before .before .before .before .padded .result) (c .before .before .before .before .before .before .before .cut .result) (c .before .before .before .before .before .before .if1 .left) (omega (arith, d)) (c .before .before .before .before .before .padded .ensures) in
+    let y = point-is (a .x .now) (c .before .before .before .before .before .padded .result) (c .before .before .before .before .before .before .before .cut .result) (c .before .before .before .before .before .before .if1 .left) (omega (arith, d)) (c .before .before .before .before .before .padded .ensures) in
     predicted s (a .x .now) (c .before .before .before .distances .result) _ (c .before .before .before .before .before .before .if1 .left ∙ d)
     (c .before .before .before .distances .ensures ∙ ap₂ (λ (q : List Float) (n : ℕ). distancesTo q (held n (s .count) (s .micros))) y d) (toZ-ofZ (sfits-of {w = w64} (c .«label-for» .ok)) ∙ c .«label-for» .ensures)
 

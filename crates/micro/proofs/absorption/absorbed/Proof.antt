@@ -1,7 +1,6 @@
 use lib.ListN.{take}
 use Rattle.micro.proofs.Turns.{absorbs-is}
 use borrow.Author.Needs.{needs}
-use borrow.Author.Needs.{needs}
 use Rattle.micro.proofs.absorption.absorbed.Statement.{statement}
 use Rattle.micro.proofs.absorption.absorbed.Tie as tie
 

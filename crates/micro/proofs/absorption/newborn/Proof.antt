@@ -1,7 +1,6 @@
 use lib.ListN.{take}
 use Rattle.micro.proofs.Turns.{newborn-is}
 use borrow.Author.Needs.{needs}
-use borrow.Author.Needs.{needs}
 use Rattle.micro.proofs.absorption.newborn.Statement.{statement}
 use Rattle.micro.proofs.absorption.newborn.Tie as tie
 

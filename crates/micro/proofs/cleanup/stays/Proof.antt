@@ -2,7 +2,6 @@ use mathlib.Core.Path.{ap}
 use mathlib.Core.Bool.{not}
 use lib.Ieee.{Float, lt}
 use borrow.Author.Needs.{needs}
-use borrow.Author.Needs.{needs}
 use Rattle.micro.proofs.cleanup.stays.Statement.{statement}
 use Rattle.micro.proofs.cleanup.stays.Tie as tie
 

@@ -3,9 +3,6 @@ use borrow.Author.Tests.{lt-ltb, le-ltb}
 use borrow.Author.Needs.{needs}
 use Rattle.link.proofs.pass.Pass.carried.Statement.{statement}
 use Rattle.link.proofs.pass.Pass.carried.Tie as tie
-use Rattle.link.proofs.pass.Pass.carried.Reads as reads
-use Rattle.link.proofs.pass.Pass.carried.Lts as lts
-use Rattle.lists.proofs.cut.Reads as cut-reads
 
 cut-requires : tie.Need-cut-requires
 cut-requires c κs = search needs

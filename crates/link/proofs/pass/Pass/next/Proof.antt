@@ -1,9 +1,6 @@
 use borrow.Author.Needs.{needs}
 use Rattle.link.proofs.pass.Pass.next.Statement.{statement}
 use Rattle.link.proofs.pass.Pass.next.Tie as tie
-use Rattle.link.proofs.pass.Pass.next.Reads as reads
-use Rattle.link.proofs.pass.Pass.next.Lts as lts
-use Rattle.link.proofs.walk.Walk.next.Reads as next-reads
 
 next-requires : tie.Need-next-requires
 next-requires c κs = search needs

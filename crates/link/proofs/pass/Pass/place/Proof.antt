@@ -2,9 +2,6 @@ use mathlib.Core.Path.{sym, _∙_}
 use borrow.Author.Needs.{needs}
 use Rattle.link.proofs.pass.Pass.place.Statement.{statement}
 use Rattle.link.proofs.pass.Pass.place.Tie as tie
-use Rattle.link.proofs.pass.Pass.place.Reads as reads
-use Rattle.link.proofs.pass.Pass.place.Lts as lts
-use Rattle.lists.proofs.cut.Reads as cut-reads
 
 sub-cut : tie.Need-sub-cut
 sub-cut c = search needs

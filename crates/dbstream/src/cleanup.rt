@@ -1,0 +1,29 @@
+// What a cleanup leaves.
+use crate::DbStream;
+ghost use mathlib.Core.Path.{_≡_};
+ghost use Rattle.model.specs.DbInsert.{cleanup};
+ghost use Rattle.dbstream.specs.Stream.{view};
+
+impl DbStream {
+    // Micro-clusters that faded below the floor go, then links that lost an end or faded below it.
+    pub(crate) fn cleaned(mut self) -> Self
+        ensures { λ r. ⌜ view r ≡ cleanup (view self) ⌝ }
+    {
+        let t = self.t;
+        let lambda = self.lambda;
+        let floor = self.floor;
+        let micros = self.micros;
+        let kept = micro::retained(micros, self.count, lambda, t, floor);
+        let left = kept.micros;
+        let n = kept.count;
+        let ids = micro::ids_of(left, n);
+        let links = self.links;
+        let bound = link::retained(links, self.link_count, ids, n, lambda, floor, t);
+        let ends = bound.links;
+        self.micros = left;
+        self.count = n;
+        self.links = ends;
+        self.link_count = bound.count;
+        self
+    }
+}

@@ -1,0 +1,46 @@
+// The clock of both streams, and the drift monitor that is told the time.
+use drift::DriftMonitor;
+use drift::Nearest;
+ghost use mathlib.Core.Path.{_≡_};
+ghost use Rattle.model.specs.Fading.{isMultiple};
+ghost use Rattle.model.specs.Ticking.{Ticks};
+
+// Whether the clock is a multiple of a period.
+fn is_multiple(t: f64, period: f64) -> bool
+    ensures { λ r. ⌜ r ≡ isMultiple t period ⌝ }
+{
+    t % period == 0.0
+}
+
+// The tick, the ticks between two prunings, and the monitor.
+pub struct Clock {
+    pub t: f64,
+    pub period: f64,
+    pub drift: DriftMonitor,
+}
+
+// The time and the monitor after a tick, and whether a pruning is due.
+pub struct Ticked {
+    pub t: f64,
+    pub drift: DriftMonitor,
+    pub due: bool,
+}
+
+impl Clock {
+    pub fn at(t: f64, period: f64, drift: DriftMonitor) -> Clock
+        ensures { λ r. ⌜ r ≡ record { t = t; period = period; drift = drift } ⌝ }
+    {
+        Clock { t, period, drift }
+    }
+
+    // The drift monitor, then t grows by 1; pruning is due where t is a multiple of the period.
+    pub fn tick(self, near: Nearest) -> Ticked
+        ensures { λ r. ⌜ Ticks self near r ⌝ }
+    {
+        let monitor = self.drift;
+        let drift = monitor.observe(near, self.t);
+        let t = self.t + 1.0;
+        let due = is_multiple(t, self.period);
+        Ticked { t, drift, due }
+    }
+}
