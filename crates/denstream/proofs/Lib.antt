@@ -1,5 +1,6 @@
 pub mod Opens
 pub mod Ticks
+pub mod Places
 pub mod Inserts
 pub mod ReadOuts
 pub mod Clusters

@@ -1,45 +1,54 @@
--- A tick as the code makes it. Assumes nothing.
-use Prim.Native.Nat.{ℕ}
-use mathlib.Core.Path.{_≡_, ap, sym, _∙_}
+-- The stream that an insert leaves, from what the clock and the pruning give. Assumes nothing.
+use mathlib.Core.Path.{_≡_, sym, ap, ap₂, _∙_}
 use mathlib.Core.Bool.{Bool, true, false, cond}
-use mathlib.Core.List.{List}
-use lib.IntN.{ℤ}
 use lib.Ieee.{Float}
-use lib.ListN.{length, take}
 use Rattle.float.specs.Rounded.{_⊕_, one}
-use Rattle.lists.specs.Retain.{retain}
 use Rattle.drift.specs.declared.Nearest.{Nearest}
-use Rattle.drift.specs.Monitor.{Monitor, observeOf}
-use Rattle.model.specs.declared.micro.Micro.{Micro}
-use Rattle.model.specs.declared.params.Params.{Params}
+use Rattle.drift.specs.declared.DriftMonitor.{DriftMonitor}
+use Rattle.drift.specs.Monitor.{Monitor}
+use Rattle.model.specs.declared.clock.Ticked.{Ticked}
 use Rattle.model.specs.Fading.{isMultiple}
+use Rattle.model.specs.Ticking.{Ticks}
 use Rattle.model.specs.DenState.{State}
-use Rattle.model.specs.DenInsert.{potentialStays, outlierStays, pruned, beat, tickOf}
-use Rattle.pool.specs.declared.pool.Pool.{Pool}
-use Rattle.pool.specs.Held.{held}
-use Rattle.placement.specs.Pools.{potentialHeld, outliersHeld, stateOf}
-use Rattle.placement.specs.PoolLaws.{prunes}
+use Rattle.model.specs.DenInsert.{pruned, beat, tickOf}
+use Rattle.placement.specs.Pools.{stateOf}
+use Rattle.denstream.specs.declared.stream.DenStream.{DenStream}
+use Rattle.denstream.specs.View.{view}
 
-module _ (p : Params) (t : Float) (potential : List Micro) (potentialCount : ℕ) (outliers : List Micro) (outlierCount : ℕ) (labels : List ℤ) (drift : Monitor)
-    (near : Nearest) (seen : Monitor) (e : seen ≡ observeOf drift near t) where
-  abbrev s : State
-  s = stateOf p t potential potentialCount outliers outlierCount labels drift
+-- s with no label, at another time and with another monitor
+abbrev pub at : DenStream → (t : Float) → DriftMonitor → DenStream
+at s t m =
+    record {
+      params = s .params;
+      t = t;
+      potential = s .potential;
+      «potential_count» = s .«potential_count»;
+      outliers = s .outliers;
+      «outlier_count» = s .«outlier_count»;
+      labels = s .labels;
+      «label_count» = 0;
+      drift = m;
+    }
 
-  abbrev later : Monitor → State
-  later m = stateOf p (t ⊕ one) potential potentialCount outliers outlierCount labels m
+abbrev pub cleared : DenStream → DenStream
+cleared s = at s (s .t) (s .drift)
 
-  ticked : (u : Bool) → isMultiple (t ⊕ one) (p .tp) ≡ u → cond u (pruned (later seen)) (later seen) ≡ tickOf s near
+-- u keeps the point, and without labels it is the document's stream s before the tick; r is what the clock gives
+module _ (u : DenStream) (s : State) (near : Nearest) (r : Ticked) (placed : view (cleared u) ≡ s) (told : Ticks (record { t = u .t; period = u .params .tp; drift = u .drift }) near r) where
+  beaten : view (at u (r .t) (r .drift)) ≡ beat s near
+  unfolding view
+  beaten =
+      ap₂ (λ (t : Float) (d : Monitor). stateOf (u .params) t (u .potential) (u .«potential_count») (u .outliers) (u .«outlier_count») (view (cleared u) .labels) d) (told .later) (told .seen)
+      ∙ ap (λ (v : State). beat v near) placed
+
+  due-is : (b : Bool) → r .due ≡ b → isMultiple (s .t ⊕ one) (s .params .tp) ≡ b
+  unfolding view
+  due-is b e = ap (λ (v : State). isMultiple (v .t ⊕ one) (v .params .tp)) (sym placed) ∙ sym (told .due) ∙ e
+
+  pub tick-still : r .due ≡ false → view (at u (r .t) (r .drift)) ≡ tickOf s near
   unfolding tickOf
-  ticked u h =
-      ap (λ (m : Monitor). cond u (pruned (later m)) (later m)) e
-      ∙ ap (λ (b : Bool). cond b (pruned (beat s near)) (beat s near)) (sym h)
+  tick-still e = beaten ∙ sym (ap (λ (b : Bool). cond b (pruned (beat s near)) (beat s near)) (due-is false e))
 
-  pub plain-tick : isMultiple (t ⊕ one) (p .tp) ≡ false → later seen ≡ tickOf s near
-  plain-tick h = ticked false h
-
-  pub pruned-tick :
-      length potential ≡ 64 → length outliers ≡ 64 → (np : ℕ) → np ≡ potentialHeld potentialCount → (ko : ℕ) → ko ≡ outliersHeld potentialCount outlierCount → isMultiple (t ⊕ one) (p .tp) ≡ true →
-      (a b : Pool) → held a ≡ retain (potentialStays p (t ⊕ one)) (take np potential) → a .count ≡ length (held a) → held b ≡ retain (outlierStays p (t ⊕ one)) (take ko outliers) → b .count ≡ length (held b) →
-      stateOf p (t ⊕ one) (a .micros) (a .count) (b .micros) (b .count) labels seen ≡ tickOf s near
-  pruned-tick lp lo np ep ko eo h a b ea ca eb cb =
-      prunes p (t ⊕ one) potential potentialCount outliers outlierCount labels seen lp lo np ep ko eo a b ea ca eb cb ∙ ticked true h
+  pub tick-prunes : (v : State) → r .due ≡ true → v ≡ pruned (view (at u (r .t) (r .drift))) → v ≡ tickOf s near
+  unfolding tickOf
+  tick-prunes v e h = h ∙ ap pruned beaten ∙ sym (ap (λ (b : Bool). cond b (pruned (beat s near)) (beat s near)) (due-is true e))

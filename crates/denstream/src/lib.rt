@@ -2,6 +2,7 @@
 mod families;
 mod insert;
 mod opening;
+mod pruning;
 mod reading;
 mod stream;
 

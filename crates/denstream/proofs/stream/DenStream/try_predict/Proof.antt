@@ -8,7 +8,7 @@ use mir.Syntax.{w64}
 use borrow.Author.Needs.{sfits-of, needs}
 use Rattle.denstream.proofs.ReadOuts.{predict-shape, predict-label, label-seen}
 use Rattle.denstream.specs.View.{view}
-use Rattle.denstream.proofs.Inserts.{point-is}
+use Rattle.model.specs.InsertLaws.{point-is}
 use Rattle.denstream.proofs.stream.DenStream.try_predict.Statement.{statement}
 use Rattle.denstream.proofs.stream.DenStream.try_predict.Tie as tie
 
@@ -41,7 +41,7 @@ returns-2 c =
     let k = c .before .before .before .before .before .before .before .cut in
     let h = c .before .before .before .before .before .before .if1 .left in
     let x = e .args .x .now in
-    let y = point-is x (c .before .before .padded .result) (k .result) (min (s .params .dim) 15) h (k .ensures) (omega arith) (c .before .before .padded .ensures) in
+    let y = point-is x (c .before .before .padded .result) (min (s .params .dim) 15) (h ∙ k .ensures) (omega arith) (c .before .before .padded .ensures) in
     predict-label (view s) x (k .result) (k .ensures) h _
     (label-seen (s .potential) (k .result) (min (s .params .dim) 15) _ _ (k .ensures) (c .before .before .before .before .before .potential-held .ensures) (s .params .eps2) (c .before .before .padded .result) x _ (take (s .«label_count») (s .labels)) _ y (c .before .distances .ensures)
     (toZ-ofZ (sfits-of {w = w64} (c .label-for .ok)) ∙ c .label-for .ensures))

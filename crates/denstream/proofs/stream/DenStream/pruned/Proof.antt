@@ -1,0 +1,42 @@
+-- `DenStream::pruned` meets its contract. Assumes nothing.
+use mathlib.Core.Path.{_≡_, sym, _∙_}
+use lib.ListN.{length, take, length-map}
+use borrow.Author.Needs.{needs}
+use Rattle.drift.specs.Monitor as monitor
+use Rattle.placement.specs.PoolLaws.{prunes}
+use Rattle.denstream.specs.View.{view}
+use Rattle.denstream.proofs.stream.DenStream.pruned.Statement.{statement}
+use Rattle.denstream.proofs.stream.DenStream.pruned.Tie as tie
+
+potential-held-requires : tie.Need-potential-held-requires
+potential-held-requires c κs = search needs
+
+outliers-held-requires : tie.Need-outliers-held-requires
+outliers-held-requires c κs = search needs
+
+prune-potential-requires : tie.Need-prune-potential-requires
+prune-potential-requires c κs = search needs
+
+prune-outliers-requires : tie.Need-prune-outliers-requires
+prune-outliers-requires c κs = search needs
+
+returns : tie.Need-returns
+unfolding view
+returns c =
+    let e = c .before .before .before .before .before .before .before .before .before in
+    let s = e .args .self in
+    let a = c .before .before .before .prune-potential in
+    let b = c .before .before .prune-outliers in
+    let lp : length (s .potential) ≡ 64 = sym (length-map (s .potential) _) ∙ e .good .0 .1 .1 .1 .1 .0 .1 .0 .1 in
+    let lo : length (s .outliers) ≡ 64 = sym (length-map (s .outliers) _) ∙ e .good .0 .1 .1 .1 .1 .1 .1 .0 .1 .0 .1 in
+    prunes (s .params) (s .t) (s .potential) (s .«potential_count») (s .outliers) (s .«outlier_count») (take (s .«label_count») (s .labels)) (monitor.view (s .drift)) lp lo _ (c .before .before .before .before .before .before .before .potential-held .ensures) _ (c .before .before .before .before .before .before .outliers-held .ensures) (a .result) (b .result) (a .ensures .0) (a .ensures .1) (b .ensures .0) (b .ensures .1)
+
+pub pruned-spec : {M : Type 1} → statement M
+pruned-spec =
+    tie.close
+    (tie.spec
+    potential-held-requires
+    outliers-held-requires
+    prune-potential-requires
+    prune-outliers-requires
+    returns)
