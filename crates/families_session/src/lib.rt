@@ -1,6 +1,5 @@
 // The session that an input's bytes hold: a stream is opened and takes the points.
 mod parse;
-mod refusal;
 mod run;
 
 use dbstream::DbStream;
@@ -8,6 +7,9 @@ use words::word_at;
 ghost use mathlib.Core.Path.{_≡_};
 ghost use Rattle.families_session.specs.Session.{ranOf};
 ghost use Rattle.families_session.specs.Told.{ranTold};
+
+// The number of the refusal of an input that is not settings and whole points.
+const INPUT_REFUSED: u64 = 11;
 
 // The number of the first refusal, 0 where there is none, and the stream as far as it came.
 pub struct Session {
@@ -23,14 +25,14 @@ pub fn session_of(input: &[u8]) -> Session
     let fresh = opened.stream;
     if !parse::is_whole(input) {
         return Session {
-            number: refusal::INPUT_REFUSED,
+            number: INPUT_REFUSED,
             stream: fresh,
         };
     }
     let opening = opened.answer;
     if !opening.is_open() {
         return Session {
-            number: refusal::opening_number(opening),
+            number: opening.number(),
             stream: fresh,
         };
     }
@@ -39,7 +41,7 @@ pub fn session_of(input: &[u8]) -> Session
     let answer = inserted.answer;
     let stream = inserted.stream;
     Session {
-        number: refusal::insertion_number(answer),
+        number: answer.number(),
         stream,
     }
 }

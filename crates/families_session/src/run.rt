@@ -3,7 +3,6 @@ use crate::parse::HEAD;
 use crate::parse::WORD;
 use crate::parse::double_at;
 use crate::parse::point;
-use crate::refusal::insertion_number;
 use dbstream::DbStream;
 use dbstream::Inserted;
 use dbstream::Opened;
@@ -42,7 +41,7 @@ pub(crate) fn insert_all(stream: DbStream, bytes: &[u8], dim: usize) -> Inserted
         let r = s.try_insert(&x[..dim]);
         s = r.stream;
         let answer = r.answer;
-        if insertion_number(answer) != 0 {
+        if answer.number() != 0 {
             return Inserted { answer, stream: s };
         }
         at += step;

@@ -10,15 +10,17 @@ use model::Insertion;
 use model::Opening;
 use model::Prediction;
 
+fn say_refused(line: &mut [u8], number: u64) {
+    let head = put(line, 0, b"refused");
+    let at = put_number(line, head, number);
+    end(line, at);
+}
+
 pub fn say_opening(line: &mut [u8], answer: Opening) {
-    match answer {
-        Opening::Open => say(line, b"ok"),
-        Opening::Dim => say(line, b"refused 1"),
-        Opening::Radius => say(line, b"refused 2"),
-        Opening::Lambda => say(line, b"refused 3"),
-        Opening::Share => say(line, b"refused 4"),
-        Opening::Weight => say(line, b"refused 5"),
-        Opening::BetaMu => say(line, b"refused 6"),
+    if answer.is_open() {
+        say(line, b"ok");
+    } else {
+        say_refused(line, answer.number());
     }
 }
 
@@ -33,8 +35,8 @@ pub fn say_insertion(line: &mut [u8], answer: Insertion) {
     match answer {
         Insertion::Done => say(line, b"ok"),
         Insertion::Shape { expected, got } => say_shape(line, expected, got),
-        Insertion::ClockAtLimit => say(line, b"refused 8"),
-        Insertion::NoPlace => say(line, b"refused 9"),
+        Insertion::ClockAtLimit => say_refused(line, 8),
+        Insertion::NoPlace => say_refused(line, 9),
     }
 }
 

@@ -1,7 +1,5 @@
 // A whole run of a DenStream.
-use crate::number::end_of;
-use crate::number::of_insertion;
-use crate::number::of_opening;
+use crate::points::end_of;
 use denstream::DenStream;
 ghost use mathlib.Core.Path.{_≡_};
 ghost use mathlib.Core.List.{_++_, map};
@@ -37,7 +35,7 @@ fn inserts(stream: DenStream, values: &[f64], lengths: &[usize], numbers: &mut [
         let r = s.try_insert(&values[at..end]);
         s = r.stream;
         let answer = r.answer;
-        numbers[i] = of_insertion(answer);
+        numbers[i] = answer.number();
         at = end;
         i += 1;
     }
@@ -60,7 +58,7 @@ pub fn denstream_session(
     let opened = DenStream::new(dim, eps, lambda, beta, mu);
     let stream = opened.stream;
     let answer = opened.answer;
-    let number = of_opening(answer);
+    let number = answer.number();
     if number != 0 {
         return DenSession { number, stream };
     }

@@ -27,13 +27,13 @@ returns c =
 is-open-requires : tie.Need-is-open-requires
 is-open-requires c κs = search needs
 
-opening-number-requires : tie.Need-opening-number-requires
-opening-number-requires c κs = search needs
+number-requires : tie.Need-number-requires
+number-requires c κs = search needs
 
 returns-2 : tie.Need-returns-2
 returns-2 c =
     let o = c .before .before .before .before .before .before .«open-stream» in
-    ap (λ (n : ℕ). ran n (view (o .result .stream))) (c .«opening-number» .ensures)
+    ap (λ (n : ℕ). ran n (view (o .result .stream))) (c .number .ensures)
     ∙ not-open (c .before .before .before .before .before .before .before .before .args .input .now) (openedTold (o .result)) (o .ensures) (sym (c .before .before .before .before .«is-whole» .ensures) ∙ not-false _ (c .before .before .before .if1 .left)) (sym (c .before .before .«is-open» .ensures) ∙ not-true _ (c .before .if2 .taken))
 
 word-at-requires : tie.Need-word-at-requires
@@ -46,15 +46,15 @@ insert-all-requires c κs =
     let d = in-range (c .«word-at» .result) (ap dimInRange (c .«word-at» .ensures) ∙ open-dim (settingsIn bytes) (openedTold (o .result)) (o .ensures) (sym (c .before .before .«is-open» .ensures) ∙ not-false _ (c .before .if2 .left))) in
     (d .0, d .1, whole-head bytes (openedTold (o .result)) (o .ensures) (sym (c .before .before .before .before .«is-whole» .ensures) ∙ not-false _ (c .before .before .before .if1 .left)))
 
-insertion-number-requires : tie.Need-insertion-number-requires
-insertion-number-requires c κs = search needs
+number-requires-2 : tie.Need-number-requires-2
+number-requires-2 c κs = search needs
 
 returns-3 : tie.Need-returns-3
 returns-3 c =
     let bytes = c .before .before .before .before .before .before .before .before .before .before .before .args .input .now in
     let o = c .before .before .before .before .before .before .before .before .before .«open-stream» in
     let i = c .before .before .«insert-all» in
-    ap (λ (n : ℕ). ran n (view (i .result .stream))) (c .«insertion-number» .ensures)
+    ap (λ (n : ℕ). ran n (view (i .result .stream))) (c .number2 .ensures)
     ∙ inserted bytes (openedTold (o .result)) (o .ensures) (sym (c .before .before .before .before .before .before .before .«is-whole» .ensures) ∙ not-false _ (c .before .before .before .before .before .before .if1 .left)) (sym (c .before .before .before .before .before .«is-open» .ensures) ∙ not-false _ (c .before .before .before .before .if2 .left)) (insertedTold (i .result))
     (i .ensures ∙ ap (λ (d : ℕ). insertAll (view (o .result .stream)) (pointsFrom ((length bytes - 40) / (d * 8)) d bytes 40)) (c .before .before .before .«word-at» .ensures))
 
@@ -66,9 +66,9 @@ session-of-spec =
     is-whole-requires
     returns
     is-open-requires
-    opening-number-requires
+    number-requires
     returns-2
     word-at-requires
     insert-all-requires
-    insertion-number-requires
+    number-requires-2
     returns-3)

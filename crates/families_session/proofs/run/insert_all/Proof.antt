@@ -43,14 +43,14 @@ slice-aggregate-try-insert c = sym (length-take-le (c .before .before .before .b
 try-insert-requires : tie.Need-try-insert-requires Inv-loop μ-loop
 try-insert-requires c κs = search needs
 
-insertion-number-requires : tie.Need-insertion-number-requires Inv-loop μ-loop
-insertion-number-requires c κs = search needs
+number-requires : tie.Need-number-requires Inv-loop μ-loop
+number-requires c κs = search needs
 
 returns : tie.Need-returns Inv-loop μ-loop
 returns c =
     let a = c .before .before .before .before .before .before .before .before .before .args in
     let l = c .before .before .before .before .before .before .before .loop in
-    stops (l .left) (a .dim) (a .bytes .now) (l .at) (c .before .before .before .before .before .before .loop-test .taken) (view (l .s)) _ (c .before .before .before .before .before .point .ensures) (insertedTold (c .before .before .before .try-insert .result)) (c .before .before .before .try-insert .ensures .0) (λ z. c .if1 .taken (c .before .insertion-number .ensures ∙ z))
+    stops (l .left) (a .dim) (a .bytes .now) (l .at) (c .before .before .before .before .before .before .loop-test .taken) (view (l .s)) _ (c .before .before .before .before .before .point .ensures) (insertedTold (c .before .before .before .try-insert .result)) (c .before .before .before .try-insert .ensures .0) (λ z. c .if1 .taken (c .before .number .ensures ∙ z))
     ∙ l .inv .1
 
 add-at : tie.Need-add-at Inv-loop μ-loop
@@ -67,7 +67,7 @@ loop-again c =
     let a = c .before .before .before .before .before .before .before .before .before .args in
     let l = c .before .before .before .before .before .before .before .loop in (
       omega (arith, one-point (l .left) (a .dim * 8) (c .before .before .before .before .before .before .loop-test .taken)),
-      goes-on (l .left) (a .dim) (a .bytes .now) (l .at) (c .before .before .before .before .before .before .loop-test .taken) (view (l .s)) _ (c .before .before .before .before .before .point .ensures) (insertedTold (c .before .before .before .try-insert .result)) (c .before .before .before .try-insert .ensures .0) (sym (c .before .insertion-number .ensures) ∙ c .if1 .left)
+      goes-on (l .left) (a .dim) (a .bytes .now) (l .at) (c .before .before .before .before .before .before .loop-test .taken) (view (l .s)) _ (c .before .before .before .before .before .point .ensures) (insertedTold (c .before .before .before .try-insert .result)) (c .before .before .before .try-insert .ensures .0) (sym (c .before .number .ensures) ∙ c .if1 .left)
           ∙ l .inv .1,
     )
 
@@ -91,7 +91,7 @@ insert-all-spec =
     array-share-prefix-x
     slice-aggregate-try-insert
     try-insert-requires
-    insertion-number-requires
+    number-requires
     returns
     add-at
     sub-left-2

@@ -3,7 +3,6 @@ use native.Mathlib.Nat.{lt-of-le-of-lt, mul-le-mul}
 use native.Mathlib.Omega.{arith}
 use lib.Dec.{lit<}
 use borrow.Author.Needs.{needs}
-use borrow.Author.Needs.{needs}
 use Rattle.replay.proofs.figures.put_centres.Statement.{statement}
 use Rattle.replay.proofs.figures.put_centres.Tie as tie
 

@@ -1,12 +1,8 @@
 use borrow.Author.Needs.{needs}
 use mathlib.Core.Path.{sym}
 use lib.Seq.{length-take-le}
-use borrow.Author.Needs.{needs}
 use Rattle.replay.proofs.output.flush.Statement.{statement}
 use Rattle.replay.proofs.output.flush.Tie as tie
-use Rattle.replay.proofs.output.flush.Reads as reads
-use Rattle.replay.proofs.output.flush.Lts as lts
-use Rattle.io.proofs.write_all.Reads as write-all-reads
 
 -- src/output.rt:12:31
 slice-aggregate-write-all : tie.Need-slice-aggregate-write-all

@@ -3,14 +3,8 @@ use mathlib.Core.Bool.{Bool, not}
 use lib.Dec.{T}
 use lib.Signed.{ltZ-no}
 use borrow.Author.Needs.{needs}
-use borrow.Author.Needs.{needs}
 use Rattle.replay.proofs.output.put_label.Statement.{statement}
 use Rattle.replay.proofs.output.put_label.Tie as tie
-use Rattle.replay.proofs.output.put_label.Reads as reads
-use Rattle.replay.proofs.output.put_label.Lts as lts
-use Rattle.replay.proofs.output.number_of.Reads as number-of-reads
-use Rattle.replay.proofs.output.put.Reads as put-reads
-use Rattle.replay.proofs.output.put_number.Reads as put-number-reads
 
 -- src/output.rt:82:30
 slice-aggregate-put : tie.Need-slice-aggregate-put

@@ -2,14 +2,8 @@ use borrow.Author.Needs.{needs}
 use mathlib.Core.Path.{sym, subst}
 use lib.Dec.{T}
 use lib.Ieee.{ofBits, neg}
-use borrow.Author.Needs.{needs}
 use Rattle.replay.proofs.output.put_whole.Statement.{statement}
 use Rattle.replay.proofs.output.put_whole.Tie as tie
-use Rattle.replay.proofs.output.put_whole.Reads as reads
-use Rattle.replay.proofs.output.put_whole.Lts as lts
-use Rattle.replay.proofs.output.put_double.Reads as put-double-reads
-use Rattle.replay.proofs.output.put_number.Reads as put-number-reads
-use Rattle.std.proofs.num.truncating_f64_to_u64.Reads as truncating-f64-to-u64-reads
 
 -- src/output.rt:62:41
 truncating-f64-to-u64-requires : tie.Need-truncating-f64-to-u64-requires

@@ -1,6 +1,6 @@
 use Prim.Native.Nat.{_-_}
 use native.Mathlib.Omega.{arith}
-use mathlib.Core.Path.{_≡_, ap, _∙_}
+use mathlib.Core.Path.{ap, _∙_}
 use lib.ListN.{length}
 use Rattle.model.specs.Answers.{insertionNumber}
 use Rattle.model.specs.Outcome.{Outcome}
@@ -47,8 +47,8 @@ part-try-insert-end c = search needs
 try-insert-requires : tie.Need-try-insert-requires Inv-loop μ-loop
 try-insert-requires c κs = search needs
 
-of-insertion-requires : tie.Need-of-insertion-requires Inv-loop μ-loop
-of-insertion-requires c κs = search needs
+number-requires : tie.Need-number-requires Inv-loop μ-loop
+number-requires c κs = search needs
 
 mul-numbers : tie.Need-mul-numbers Inv-loop μ-loop
 mul-numbers c = search needs
@@ -67,9 +67,9 @@ loop-again c =
     let a = c .before .before .before .before .before .before .before .before .before .before .before .args in
     let l = c .before .before .before .before .before .before .before .loop in
     let r = c .before .before .try-insert in
-    going-on insertOf (a .lengths .now) (a .values .now) (view (a .stream)) (view (l .s)) (view (r .result .stream)) (a .numbers .now) (l .numbers) (l .i) (l .at) (c .before .before .before .before .end-of .result) (c .of-insertion .result)
+    going-on insertOf (a .lengths .now) (a .values .now) (view (a .stream)) (view (l .s)) (view (r .result .stream)) (a .numbers .now) (l .numbers) (l .i) (l .at) (c .before .before .before .before .end-of .result) (c .number .result)
     (l .inv) (c .before .before .before .before .before .before .loop-test .taken) (omega (arith, l .inv .places)) (c .before .before .before .before .end-of .ensures)
-    (ap (λ (o : Outcome State). o .stream) (r .ensures .0)) (c .of-insertion .ensures ∙ ap (λ (o : Outcome State). insertionNumber (o .answer)) (r .ensures .0))
+    (ap (λ (o : Outcome State). o .stream) (r .ensures .0)) (c .number .ensures ∙ ap (λ (o : Outcome State). insertionNumber (o .answer)) (r .ensures .0))
 
 same-length : tie.Need-same-length Inv-loop μ-loop
 same-length c = search needs
@@ -95,7 +95,7 @@ inserts-spec =
     part-try-insert-start
     part-try-insert-end
     try-insert-requires
-    of-insertion-requires
+    number-requires
     mul-numbers
     slice-write-numbers
     add-i

@@ -8,7 +8,6 @@ use lib.Ieee.Bits.{toBits-lt}
 use native.Mathlib.Nat.{pow-le-pow-right}
 use Rattle.io.specs.Digits.{Fewest}
 use Rattle.float.specs.Compare.{nan-test}
-use borrow.Author.Needs.{needs}
 use Rattle.words.proofs.text.double_text.Statement.{statement}
 use Rattle.words.proofs.text.double_text.Tie as tie
 

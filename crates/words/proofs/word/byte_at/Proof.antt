@@ -2,7 +2,6 @@ use borrow.Author.Needs.{needs}
 use native.Mathlib.Omega.{arith}
 use mathlib.Core.Path.{refl, sym}
 use Rattle.words.proofs.Turns.{getD-past}
-use borrow.Author.Needs.{needs}
 use Rattle.words.proofs.word.byte_at.Statement.{statement}
 use Rattle.words.proofs.word.byte_at.Tie as tie
 

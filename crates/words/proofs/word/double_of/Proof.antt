@@ -6,7 +6,6 @@ use mathlib.Core.Bool.{not}
 use lib.Dec.{T, ltb, ltb→lt, lt→ltb, not-T}
 use lib.Ieee.{Float, nan, inf, fin, binary64, div, isNan, ofBits, nanBits}
 use lib.Ieee.Bits.{nanBits-is, nanBits-above}
-use borrow.Author.Needs.{needs}
 use Rattle.words.proofs.word.double_of.Statement.{statement}
 use Rattle.words.proofs.word.double_of.Tie as tie
 
