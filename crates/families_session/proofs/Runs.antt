@@ -9,12 +9,12 @@ use native.Mathlib.Omega.{arith}
 use borrow.Author.Tests.{eq-eqb, ne-eqb}
 use lib.Ieee.{Float}
 use Rattle.model.specs.declared.answers.Insertion.the-variants.{Done}
-use Rattle.model.specs.Answers.{insertionNumber}
+use Rattle.model.specs.Answers.{insertionNumber, isDone}
 use Rattle.model.specs.Outcome.{Outcome}
 use Rattle.model.specs.DbState.{State}
 use Rattle.model.specs.DbInsert.{insertOf}
 use Rattle.families_session.specs.Input.{doublesFrom, pointsFrom}
-use Rattle.families_session.specs.Session.{isDone, insertAll}
+use Rattle.families_session.specs.Session.{insertAll}
 
 -- the bytes of the points left are those of the next and of the others
 pub one-point : (left size : ℕ) → 0 < left → left * size ≡ size + (left - 1) * size

@@ -1,19 +1,14 @@
 -- Document 01, `families`: the session that an input gives. Definitions only.
 use Prim.Native.Nat.{ℕ}
-use mathlib.Core.Bool.{Bool, cond}
+use mathlib.Core.Bool.{cond}
 use mathlib.Core.List.{List, [], _∷_}
-use lib.Dec.{eqb}
 use lib.Ieee.{Float}
-use Rattle.model.specs.declared.answers.Insertion.{Insertion}
 use Rattle.model.specs.declared.answers.Insertion.the-variants.{Done}
-use Rattle.model.specs.Answers.{openingNumber, isOpen, insertionNumber}
+use Rattle.model.specs.Answers.{openingNumber, isOpen, insertionNumber, isDone}
 use Rattle.model.specs.Outcome.{Opened, Outcome}
 use Rattle.model.specs.DbState.{State, openOf}
 use Rattle.model.specs.DbInsert.{insertOf}
 use Rattle.families_session.specs.Input.{settingsIn, pointsIn, isWhole}
-
-abbrev pub isDone : Insertion → Bool
-isDone a = eqb (insertionNumber a) 0
 
 -- "stops at the first refusal, an insert's included"
 unfoldable pub insertAll : State → List (List Float) → Outcome State

@@ -8,7 +8,7 @@ use native.Mathlib.Omega.{arith}
 use mathlib.Core.Bool.{Bool, true, false, not, _&&_, _||_, cond, true≢false}
 use lib.IntN.{ℤ, pos}
 use lib.Dec.{T, ltb, eqb, eqb→eq, ltb→lt, lt→ltb, nltb→le, lit<}
-use lib.Ieee.{Float, nan, inf, fin, Format, up, down, round, neg, sum, add, sub, mul, div, lt, eq, le, unlike, level, below, ofBits}
+use lib.Ieee.{Float, nan, inf, fin, Format, up, down, round, neg, sum, add, sub, mul, div, lt, le, unlike, level, below, ofBits}
 use lib.Ieee.Fits.{down-pos, up-pos, eq→eqb, and-l, and-r}
 use lib.Ieee.Order.{round-mono}
 use lib.Ieee.Scale.{round-same, finite}
@@ -332,11 +332,6 @@ div-mono f (is-fin s m e) (is-fin s' m' e') (is-fin false (suc n) d) h k =
     (rw (P-mul s (m * up e) (down d), Q-mul s (m * up e) (down d), P-mul s' (m' * up e') (down d), Q-mul s' (m' * up e') (down d), mul-comm (suc n * up d) (down e), mul-comm (suc n * up d) (down e'))
     (scale-parts (P s (m * up e)) (Q s (m * up e)) (down e) (P s' (m' * up e')) (Q s' (m' * up e')) (down e') (down d) (suc n * up d) (le→parts s m e s' m' e' h))))
 
--- ---- `lt` and `le`
-pub le-of-lt-all : (x y : Float) → T (lt x y) → T (le x y)
-unfolding le
-le-of-lt-all x y h = or-l (lt x y) (eq x y) h
-
 -- of two values that are no NaN, one is not above the other
 no-parts : (s : Bool) (a : ℕ) (t : Bool) (b : ℕ) → T (not (below s a t b)) → Le t b s a
 no-parts false a false b h = let k : b ≤ a = nltb→le a b h in omega arith
@@ -344,18 +339,9 @@ no-parts false a true b h = omega arith
 no-parts true a false b h = let k : a + b ≤ 0 = nltb→le 0 (a + b) h in omega arith
 no-parts true a true b h = let k : a ≤ b = nltb→le b a h in omega arith
 
-parts-no : (s : Bool) (a : ℕ) (t : Bool) (b : ℕ) → T (below s a t b) → Le t b s a → ⊥
-parts-no false a false b h l = let k : a < b = ltb→lt a b h in omega arith
-parts-no false a true b h l = h
-parts-no true a false b h l = let k : 0 < a + b = ltb→lt 0 (a + b) h in omega arith
-parts-no true a true b h l = let k : b < a = ltb→lt b a h in omega arith
-
 lt-fin : (s : Bool) (m : ℕ) (e : ℤ) (t : Bool) (n : ℕ) (d : ℤ) → lt (fin s m e) (fin t n d) ≡ below s (m * up e * down d) t (n * up d * down e)
 unfolding lt
 lt-fin s m e t n d = refl
 
 pub le-of-not-lt : (x y : Float) → Finite x → Finite y → T (not (lt x y)) → T (le y x)
 le-of-not-lt x y (is-fin s m e) (is-fin t n d) h = subst T (sym (le-fin t n d s m e)) (le-in t (n * up d * down e) s (m * up e * down d) (no-parts s (m * up e * down d) t (n * up d * down e) (subst (λ (b : Bool). T (not b)) (lt-fin s m e t n d) h)))
-
-pub not-le-of-lt-fin : (x y : Float) → Finite x → Finite y → T (lt x y) → T (le y x) → ⊥
-not-le-of-lt-fin x y (is-fin s m e) (is-fin t n d) h k = parts-no s (m * up e * down d) t (n * up d * down e) (subst T (lt-fin s m e t n d) h) (le-out t (n * up d * down e) s (m * up e * down d) (subst T (le-fin t n d s m e) k))

@@ -5,8 +5,8 @@ use mathlib.Core.List.{List, _∷_, _++_, map, foldl, append-nil}
 use mathlib.Core.Bool.{Bool, true, false}
 use native.Mathlib.Numerals.{add-one}
 use native.Mathlib.Omega.{arith}
-use lib.ListN.{length, take, drop, getD, set}
-use lib.Seq.{take-suc-set, append-snoc, take-take}
+use lib.ListN.{length, take, getD, set}
+use lib.Seq.{take-suc-set, append-snoc}
 use Rattle.lists.specs.Retain.{retain}
 use Rattle.lists.specs.Rest.{rest, rest-step, rest-end, rest-set}
 
@@ -18,19 +18,6 @@ module _ {ℓ} {A : Type ℓ} where
 
     pub fold-end : n ≤ i → foldl f s (rest n i l) ≡ s
     fold-end h = rw (rest-end n i l)
-
-  -- ---- a map in place: `l[i] = f(l[i])` for i from 0. Done is `take i l`, left is `rest n i l`
-  module _ (f : A → A) (n i : ℕ) (l : List A) where
-    pub map-step :
-        (d v : A) → i < n → n ≤ length l → v ≡ f (getD l i d) →
-        take (i + 1) (set l i v) ++ map f (rest n (i + 1) (set l i v)) ≡ take i l ++ map f (rest n i l)
-    map-step d v h k e =
-        let q : i < length l = omega arith in
-        let b : i < i + 1 = omega arith in
-        rw (rest-step n i l d, ← e, rest-set n (i + 1) l i v, add-one, take-suc-set l i v, append-snoc (take i l) v)
-
-    pub map-end : n ≤ i → take i l ++ map f (rest n i l) ≡ take i l
-    map-end h = rw (rest-end n i l) (append-nil (take i l))
 
   -- ---- a retain in place: `if p(l[i]) { l[j] = l[i]; j += 1; }` for i from 0. Done is `take j l`, left is `rest n i l`
   module _ (p : A → Bool) (n i j : ℕ) (l : List A) (d : A) (h : i < n) (k : n ≤ length l) where
@@ -64,10 +51,6 @@ module _ {ℓ} {A : Type ℓ} where
   carry-end n i l c e h =
       let b : n ≤ i = omega arith in
       rw (rest-end n i l, e, add-one, take-suc-set l n c)
-
-  pub carry-start : (n p : ℕ) (l : List A) (c : A) → p ≤ n → take p l ++ c ∷ rest n p l ≡ take p (take n l) ++ c ∷ drop p (take n l)
-  unfolding rest
-  carry-start n p l c h = rw (take-take p n l)
 
 -- ---- a map into another array: `out[i] = f(l[i])` for i from 0. Done is `take i out`, left is `rest n i l`
 module _ {ℓ} {A B : Type ℓ} (f : A → B) (n i : ℕ) (l : List A) (out : List B) where

@@ -21,7 +21,7 @@ use Rattle.model.specs.DenInsert.{potentialStays, outlierStays, pruned}
 use Rattle.pool.specs.declared.pool.Pool.{Pool}
 use Rattle.pool.specs.Held.{held, microIn, seen}
 use Rattle.placement.specs.declared.choice.Target.{Target}
-use Rattle.placement.specs.declared.choice.Target.the-variants.{Potential, Promotion, Outlier, Newborn, Nowhere}
+use Rattle.placement.specs.declared.choice.Target.the-variants.{Potential, Promotion, Outlier, Newborn}
 use Rattle.placement.specs.Pools.{potentialHeld, outliersHeld, stateOf}
 use Rattle.placement.specs.Placing.{pooledAt, Ready}
 
@@ -66,9 +66,6 @@ module _ (p : Params) (t : Float) (potential : List Micro) (potentialCount : ℕ
     outlier-absorbs e =
         ap (λ (l : List Micro). with (s .potential) l []) (seen-set d (outliersHeld potentialCount outlierCount) outliers place m)
         ∙ ap (λ (u : Target). pooledAt u place (microIn d m) s) (sym e)
-
-    pub nowhere-stays : target ≡ Nowhere → s ≡ pooledAt target place (microIn d m) s
-    nowhere-stays e = ap (λ (u : Target). pooledAt u place (microIn d m) s) (sym e)
 
     module _ (r : Ready target place s) where
       abbrev Needs : Target → Type 0
