@@ -81,7 +81,8 @@ going :
     Kept (a .t1 .lambda) (a .t1 .t) (a .scan .ids) (a .scan .count) (goal (a .t1) (a .t1 .lambda) (a .t1 .t) (a .scan .ids) (a .scan .count)) (k .self .links) (k .pass) (set (k .self .links) (c .before .before .place .result) (c .step .result .link)) (c .step .result .pass)
 going c =
     let k = c .before .before .before .before .before .before .loop in
-    stepped _ _ _ _ _ _ _ (k .inv .1) (c .before .before .before .if2 .taken) _ _ _ (c .before .before .place .ensures) _ (c .step .ensures (k .inv .2) .1)
+    let a = c .before .before .before .before .before .before .before .before .before .before .before .before .before .before .args in
+    stepped (a .t1 .lambda) (a .t1 .t) (a .scan .ids) (a .scan .count) (goal (a .t1) (a .t1 .lambda) (a .t1 .t) (a .scan .ids) (a .scan .count)) (k .self .links) (k .pass) (k .inv .1) (c .before .before .before .if2 .taken) _ _ _ (c .before .before .place .ensures) _ (c .step .ensures (k .inv .2) .1)
 
 loop-less : tie.Need-loop-less Inv-loop μ-loop
 loop-less c = going (c .before .before .before) .1
