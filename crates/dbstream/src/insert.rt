@@ -1,8 +1,8 @@
 // A point is taken.
 use crate::DbStream;
 use feature::MAX_DIM;
-use link::Factor;
-use link::Pass;
+use gains::Factor;
+use gains::Pass;
 use micro::Scan;
 use model::Clock;
 use model::Insertion;

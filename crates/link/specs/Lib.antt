@@ -1,8 +1,3 @@
-pub mod Walk
-pub mod Passed
-pub mod Walking
-pub mod Factor
-pub mod Pass
-pub mod Passing
+pub mod Order
 pub mod Among
 pub mod Between

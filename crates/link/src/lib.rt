@@ -1,14 +1,11 @@
 // DBSTREAM's links: the shared density of pairs of micro-clusters, ascending by (lo, hi).
 mod between;
-mod factor;
 mod order;
-mod pass;
 mod stay;
-mod walk;
 
 pub use between::connectivity;
-pub use factor::Factor;
-pub use pass::Pass;
-pub use pass::Step;
+pub use order::is_before;
+pub use order::key_of;
+pub use order::same_ends;
 pub use stay::Links;
 pub use stay::retained;

@@ -3,7 +3,7 @@ use model::Link;
 use model::MicroId;
 ghost use mathlib.Core.Path.{_≡_};
 ghost use Rattle.model.specs.DbInsert.{before, sameEnds};
-ghost use Rattle.link.specs.Walk.{keyOf};
+ghost use Rattle.link.specs.Order.{keyOf};
 
 // Whether l stands before k.
 pub fn is_before(l: Link, k: Link) -> bool

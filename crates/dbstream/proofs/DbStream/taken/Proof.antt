@@ -12,8 +12,8 @@ use Rattle.model.specs.Fading.{isMultiple}
 use Rattle.model.specs.DbInsert.{cleanup, beat, tickOf}
 use Rattle.model.specs.Ticking.{Ticks}
 use Rattle.model.specs.InsertLaws.{when-done, when-refused}
-use Rattle.link.specs.Factor.{Right}
-use Rattle.link.specs.Passing.{Passing, Kept, toGo, starts, stepped, ends}
+use Rattle.gains.specs.Factor.{Right}
+use Rattle.gains.specs.Passing.{Passing, Kept, toGo, starts, stepped, ends}
 use Rattle.dbstream.specs.declared.DbStream.{DbStream}
 use Rattle.dbstream.specs.Stream.{view}
 use Rattle.dbstream.specs.Placed.{placedBy}

@@ -1,5 +1,4 @@
 -- `is_among` meets its contract. Assumes nothing.
--- `is_among` meets its contract. Assumes nothing.
 use Prim.Native.Nat.{_≤_, _-_}
 use native.Mathlib.Omega.{arith}
 use mathlib.Core.Path.{_≡_, sym, ap, _∙_}

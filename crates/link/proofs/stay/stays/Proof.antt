@@ -1,5 +1,4 @@
 -- `stays` meets its contract. Assumes nothing.
--- `stays` meets its contract. Assumes nothing.
 use mathlib.Core.Path.{refl, sym, _∙_}
 use borrow.Author.Needs.{needs}
 use lib.ListN.{take}

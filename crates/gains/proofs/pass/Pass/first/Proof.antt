@@ -1,0 +1,15 @@
+use borrow.Author.Needs.{needs}
+use Rattle.gains.proofs.pass.Pass.first.Statement.{statement}
+use Rattle.gains.proofs.pass.Pass.first.Tie as tie
+
+first-requires : tie.Need-first-requires
+first-requires c κs = search needs
+
+cut-requires : tie.Need-cut-requires
+cut-requires c κs = search needs
+
+returns : tie.Need-returns
+returns c = rw (c .before .before .first .ensures, c .cut .ensures)
+
+pub first-spec : {M : Type 1} → statement M
+first-spec = tie.close (tie.spec first-requires cut-requires returns)

@@ -1,0 +1,12 @@
+use borrow.Author.Needs.{needs}
+use Rattle.gains.proofs.pass.Pass.next.Statement.{statement}
+use Rattle.gains.proofs.pass.Pass.next.Tie as tie
+
+next-requires : tie.Need-next-requires
+next-requires c κs = search needs
+
+returns : tie.Need-returns
+returns c = rw (c .before .next .ensures)
+
+pub next-spec : {M : Type 1} → statement M
+next-spec = tie.close (tie.spec next-requires returns)
