@@ -1,19 +1,18 @@
 -- An insert into the arrays, seen through the view.
 use Prim.Native.Nat.{ℕ, _+_, _%_, _^_, _≤_, _<_, min}
 use native.Mathlib.Omega.{arith}
-use native.Mathlib.Decide.{ℕ-discrete}
+use native.Mathlib.Decide.{ℕ-discrete, decLt}
 use mathlib.Core.Path.{_≡_, refl, sym, ap, ap₂, subst, _∙_}
 use mathlib.Core.Logic.{_≢_, by-cases}
 use mathlib.Core.List.{List, [], _∷_, _++_, map, foldl}
 use mathlib.Core.Bool.{Bool, true, false, not, cond, _||_}
-use borrow.Author.Tests.{eq-eqb, ne-eqb, lt-ltb}
-use lib.Dec.{T, eqb, ltb, ltb→lt}
+use borrow.Author.Tests.{eq-eqb, ne-eqb, lt-ltb, le-ltb}
+use lib.Dec.{T, ltb, ltb→lt}
 use lib.Ieee.{Float}
 use lib.ListN.{length, take, length-take}
 use lib.Seq.{length-take-le}
 use Rattle.float.specs.Rounded.{_⊗_}
 use Rattle.lists.specs.Retain.{retain}
-use Rattle.lists.specs.Rest.{cut-take}
 use Rattle.lists.specs.Maps.{map-length, map-append}
 use Rattle.feature.specs.Feature.{maxDim}
 use Rattle.model.specs.declared.micro.MicroId.{MicroId}
@@ -26,23 +25,21 @@ use Rattle.model.specs.Questions.{insertionAsked}
 use Rattle.model.specs.Outcome.{outcome}
 use Rattle.model.specs.InsertLaws.{inserted-by}
 use Rattle.model.specs.DbState.{State}
-use Rattle.model.specs.DbInsert.{isNeighbour, neighboursOf, isAbsorbed, leastOf, newborn, absorbs, absorbed, pairsOf, gainOf, born, idOf, joined, placed, tickOf, takenOf, hasPlace, nearestFor, insertOf}
-use Rattle.micro.specs.declared.scan.Scan.{Scan}
-use Rattle.micro.specs.Held.{cutTo, held, distancesTo}
-use Rattle.micro.specs.Near.{absorbNear}
-use Rattle.micro.specs.Scanned.{Scanned}
-use Rattle.micro.specs.Views.{absorb-view, newborn-view}
+use Rattle.model.specs.DbInsert.{isNeighbour, neighboursOf, isAbsorbed, newborn, absorbs, absorbed, pairsOf, gainOf, born, idOf, joined, placed, tickOf, takenOf, hasPlace, insertOf}
+use Rattle.neighbours.specs.declared.scan.Scan.{Scan}
+use Rattle.micro.specs.Held.{cutTo, held}
+use Rattle.neighbours.specs.Near.{absorbNear}
+use Rattle.neighbours.specs.Placing.{hasPlaceBy}
+use Rattle.neighbours.specs.Scanned.{Scanned}
+use Rattle.neighbours.specs.Views.{absorb-view, newborn-view}
 use Rattle.dbstream.specs.declared.DbStream.{DbStream}
 use Rattle.dbstream.specs.Stream.{view, dimOf}
 use Rattle.dbstream.specs.Placed.{changed, microsBy, gainedBy, placedBy}
 
--- whether there is a place, by how many absorb and how many are held
-abbrev pub room : (absorbing held : ℕ) → Bool
-room absorbing held = not (eqb absorbing 0) || ltb held microsMost
-
-room-free : (k n : ℕ) → room k n ≡ true → k ≡ 0 → n < microsMost
-room-free k n p h =
-    let q : ltb n microsMost ≡ true = ap (λ (b : Bool). not b || ltb n microsMost) (sym (eq-eqb k 0 h)) ∙ p in
+-- a point that nobody absorbs has a place only where fewer than 64 are held
+place-free : (f : Scan) (n : ℕ) → hasPlaceBy f n ≡ true → f .count ≡ 0 → n < microsMost
+place-free f n p h =
+    let q : ltb n microsMost ≡ true = ap (λ (b : Bool). not b || ltb n microsMost) (sym (eq-eqb (f .count) 0 h)) ∙ p in
     ltb→lt n microsMost (subst T (sym q) tt)
 
 -- ---- lists: p holds of one where one is retained; fewer than two make no pair; a whole point
@@ -71,31 +68,23 @@ no-pair (a ∷ []) h = refl
 no-pair (a ∷ b ∷ ids) h = absurd (omega arith)
 
 -- ---- the stream after the micro-clusters and links, before the tick
--- what is known once the micro-clusters are scanned for x, of which y is the first d places: n are held
-pub record Met (s : DbStream) (x y : List Float) (d n : ℕ) (f : Scan) : Type 0 where
+-- what is known once the micro-clusters are scanned for x, of which y is the first d places
+pub record Met (s : DbStream) (x y : List Float) (d : ℕ) (f : Scan) : Type 0 where
   pub coordinates : d ≡ dimOf s
   pub point : length x ≡ d → y ≡ x
-  pub held-is : n ≡ min (s .count) microsMost
   pub places : length (s .micros) ≡ microsMost
   pub ids-places : length (f .ids) ≡ microsMost
-  pub distances-places : length (f .distances) ≡ microsMost
-  pub scanned : Scanned (s .r) y d n (s .micros) f
+  pub scanned : Scanned (s .r) y d (s .count) (s .micros) f
 
 -- of a point of dim coordinates
-module _ {s : DbStream} {x y : List Float} {d n : ℕ} {f : Scan} (m : Met s x y d n f) (ex : length x ≡ d) where
-  kept : take n (s .micros) ≡ take (s .count) (s .micros)
-  kept = cut-take n (s .count) microsMost (s .micros) (m .held-is) (m .places)
-
-  met : Scanned (s .r) x (dimOf s) n (s .micros) f
+module _ {s : DbStream} {x y : List Float} {d : ℕ} {f : Scan} (m : Met s x y d f) (ex : length x ≡ d) where
+  met : Scanned (s .r) x (dimOf s) (s .count) (s .micros) f
   met =
-      subst (λ (z : List Float). Scanned (s .r) z (dimOf s) n (s .micros) f) (m .point ex)
-      (subst (λ (q : ℕ). Scanned (s .r) y q n (s .micros) f) (m .coordinates) (m .scanned))
-
-  ids-are : take (f .count) (f .ids) ≡ map idOf (neighboursOf (view s) x)
-  ids-are = met .neighbours ∙ ap (λ (l : List DbMicro). map idOf (retain (isNeighbour (s .r) x) (map (cutTo (dimOf s)) l))) kept
+      subst (λ (z : List Float). Scanned (s .r) z (dimOf s) (s .count) (s .micros) f) (m .point ex)
+      (subst (λ (q : ℕ). Scanned (s .r) y q (s .count) (s .micros) f) (m .coordinates) (m .scanned))
 
   k-is : length (neighboursOf (view s) x) ≡ f .count
-  k-is = sym (map-length idOf (neighboursOf (view s) x)) ∙ sym (ap length ids-are) ∙ length-take-le (f .count) (f .ids) (omega (arith, met .places))
+  k-is = sym (map-length idOf (neighboursOf (view s) x)) ∙ sym (ap length (met .neighbours)) ∙ length-take-le (f .count) (f .ids) (omega (arith, met .places, m .ids-places))
 
   none : f .count ≡ 0 → isAbsorbed (view s) x ≡ false
   none h = any-none (isNeighbour (s .r) x) (view s .micros) (k-is ∙ h)
@@ -103,36 +92,30 @@ module _ {s : DbStream} {x y : List Float} {d n : ℕ} {f : Scan} (m : Met s x y
   some : f .count ≢ 0 → isAbsorbed (view s) x ≡ true
   some h = any-some (isNeighbour (s .r) x) (view s .micros) (omega (arith, k-is, h))
 
-  size : length (view s .micros) ≡ n
-  size = map-length (cutTo (dimOf s)) (take (s .count) (s .micros)) ∙ sym (ap length kept) ∙ length-take-le n (s .micros) (omega arith)
+  size : length (view s .micros) ≡ min (s .count) microsMost
+  size = map-length (cutTo (dimOf s)) (take (s .count) (s .micros)) ∙ length-take (s .count) (s .micros) ∙ ap (min (s .count)) (m .places)
 
-  place-is : room (f .count) n ≡ hasPlace (view s) x
+  free-is : ltb (s .count) microsMost ≡ ltb (length (view s .micros)) microsMost
+  free-is =
+      by-cases (decLt (s .count) microsMost) (λ h. lt-ltb (s .count) microsMost h ∙ sym (lt-ltb (length (view s .micros)) microsMost (omega (arith, size, h))))
+      (λ h. le-ltb (s .count) microsMost (omega (arith, h)) ∙ sym (le-ltb (length (view s .micros)) microsMost (omega (arith, size, h))))
+
+  place-is : hasPlaceBy f (s .count) ≡ hasPlace (view s) x
   place-is =
-      ap₂ (λ (a : Bool) (q : ℕ). a || ltb q microsMost)
-      (by-cases (ℕ-discrete (f .count) 0) (λ h. ap not (eq-eqb (f .count) 0 h) ∙ sym (none h)) (λ h. ap not (ne-eqb (f .count) 0 h) ∙ sym (some h))) (sym size)
+      ap₂ (λ (a b : Bool). a || b)
+      (by-cases (ℕ-discrete (f .count) 0) (λ h. ap not (eq-eqb (f .count) 0 h) ∙ sym (none h)) (λ h. ap not (ne-eqb (f .count) 0 h) ∙ sym (some h))) free-is
 
-  nearest-is : f .nearest ≡ nearestFor (view s) x
-  nearest-is = met .nearest ∙ ap (λ (l : List DbMicro). leastOf (distancesTo x (map (cutTo (dimOf s)) l))) kept
-
-  few : f .count ≡ 0 → n < microsMost → ltb (s .count) microsMost ≡ true
-  few z h = lt-ltb (s .count) microsMost (omega (arith, m .held-is, h))
-
-  micros-born : f .count ≡ 0 → n < microsMost → microsBy s f y ≡ view s .micros ++ newborn (dimOf s) (record { 0 = s .«next_id» }) (s .t) x ∷ []
+  micros-born : f .count ≡ 0 → s .count < microsMost → microsBy s f y ≡ view s .micros ++ newborn (dimOf s) (record { 0 = s .«next_id» }) (s .t) x ∷ []
   micros-born z h =
-      rw (eq-eqb (f .count) 0 z, few z h)
+      rw (eq-eqb (f .count) 0 z, lt-ltb (s .count) microsMost h)
       (map-append (cutTo (dimOf s)) (take (s .count) (s .micros)) (newborn maxDim (record { 0 = s .«next_id» }) (s .t) y ∷ [])
       ∙ ap (λ (v : DbMicro). view s .micros ++ v ∷ [])
       (ap (λ (q : List Float). cutTo (dimOf s) (newborn maxDim (record { 0 = s .«next_id» }) (s .t) q)) (m .point ex) ∙ newborn-view (dimOf s) x (ex ∙ m .coordinates) (omega arith) (s .t) (record { 0 = s .«next_id» })))
 
-  measured-is : take (s .count) (f .distances) ≡ distancesTo x (view s .micros)
-  measured-is =
-      sym (cut-take n (s .count) microsMost (f .distances) (m .held-is) (m .distances-places)) ∙ met .measured
-      ∙ ap (λ (l : List DbMicro). distancesTo x (map (cutTo (dimOf s)) l)) kept
-
   micros-absorbed : f .count ≢ 0 → microsBy s f y ≡ map (absorbed (s .r) (s .lambda) (s .t) x) (view s .micros)
   micros-absorbed h =
       rw (ne-eqb (f .count) 0 h)
-      (ap₂ (λ (z q : List Float). map (cutTo (dimOf s)) (absorbNear (s .r ⊗ s .r) (absorbs (s .lambda) (s .t) z) q (take (s .count) (s .micros)))) (m .point ex) measured-is
+      (ap₂ (λ (z q : List Float). map (cutTo (dimOf s)) (absorbNear (s .r ⊗ s .r) (absorbs (s .lambda) (s .t) z) q (take (s .count) (s .micros)))) (m .point ex) (met .measured)
       ∙ absorb-view (dimOf s) x (ex ∙ m .coordinates) (s .r) (s .lambda) (s .t) (take (s .count) (s .micros)))
 
   -- no pair, no gain
@@ -141,24 +124,24 @@ module _ {s : DbStream} {x y : List Float} {d n : ℕ} {f : Scan} (m : Met s x y
       let short : length (take (f .count) (f .ids)) ≤ 1 = omega (arith, length-take (f .count) (f .ids)) in
       ap (foldl (gainOf (s .lambda) (s .t)) (view s .links)) (no-pair (take (f .count) (f .ids)) short)
 
-  placed-is : (f .count ≡ 0 → n < microsMost) → placedBy s f y ≡ placed (view s) x
+  placed-is : (f .count ≡ 0 → s .count < microsMost) → placedBy s f y ≡ placed (view s) x
   placed-is free =
       by-cases (ℕ-discrete (f .count) 0)
       (λ h.
-      ap (λ (q : ℕ). changed s q (microsBy s f y) (gainedBy s f)) (rw (eq-eqb (f .count) 0 h, few h (free h)) refl)
+      ap (λ (q : ℕ). changed s q (microsBy s f y) (gainedBy s f)) (rw (eq-eqb (f .count) 0 h, lt-ltb (s .count) microsMost (free h)) refl)
       ∙ ap₂ (changed s ((s .«next_id» + 1) % 2 ^ 64)) (micros-born h (free h)) (links-stay h)
       ∙ sym (ap (λ (c : Bool). cond c (joined (view s) x) (born (view s) x)) (none h)))
       (λ h.
       ap (λ (q : ℕ). changed s q (microsBy s f y) (gainedBy s f)) (rw (ne-eqb (f .count) 0 h) refl)
-      ∙ ap₂ (changed s (s .«next_id»)) (micros-absorbed h) (ap (λ (q : List MicroId). foldl (gainOf (s .lambda) (s .t)) (view s .links) (pairsOf q)) ids-are)
+      ∙ ap₂ (changed s (s .«next_id»)) (micros-absorbed h) (ap (λ (q : List MicroId). foldl (gainOf (s .lambda) (s .t)) (view s .links) (pairsOf q)) (met .neighbours))
       ∙ sym (ap (λ (c : Bool). cond c (joined (view s) x) (born (view s) x)) (some h)))
 
 -- ---- the whole insert
-module _ {s : DbStream} {x y : List Float} {d n : ℕ} {f : Scan} (m : Met s x y d n f) (a : Insertion) (place : Bool) (ep : place ≡ room (f .count) n) (e : a ≡ insertionAsked d (length x) (s .t) place) where
+module _ {s : DbStream} {x y : List Float} {d : ℕ} {f : Scan} (m : Met s x y d f) (a : Insertion) (place : Bool) (ep : place ≡ hasPlaceBy f (s .count)) (e : a ≡ insertionAsked d (length x) (s .t) place) where
   -- v is what becomes of the stream, by whether the answer is no refusal
   pub inserted : (b : Bool) (v : State) → b ≡ isDone a → v ≡ cond b (tickOf (placedBy s f y) (f .nearest)) (view s) → record { answer = a; stream = v } ≡ insertOf (view s) x
   unfolding insertOf
   inserted b v eb ev =
       inserted-by d (length x) (s .t) place (hasPlace (view s) x) (view s) (takenOf (view s) x) (tickOf (placedBy s f y) (f .nearest)) v a b (λ h. ep ∙ place-is m h) e eb ev
-      (λ h p. ap₂ tickOf (placed-is m h (room-free (f .count) n (sym ep ∙ p))) (nearest-is m h))
+      (λ h p. ap₂ tickOf (placed-is m h (place-free f (s .count) (sym ep ∙ p))) (met m h .nearest))
       ∙ ap (λ (q : ℕ). outcome (insertionAsked q (length x) (s .t) (hasPlace (view s) x)) (view s) (takenOf (view s) x)) (m .coordinates)

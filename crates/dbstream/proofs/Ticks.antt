@@ -1,12 +1,13 @@
 -- The stream that an insert leaves, from what the links' loop, the clock and the cleanup give. Assumes nothing.
 use Prim.Native.Nat.{ℕ}
 use mathlib.Core.Path.{_≡_, refl, sym, ap, ap₂, _∙_}
-use mathlib.Core.List.{List, [], map, foldl}
+use mathlib.Core.List.{List, [], map, map-map, foldl}
 use mathlib.Core.Bool.{Bool, true, false, cond}
 use lib.Ieee.{Float}
 use lib.ListN.{take}
 use Rattle.float.specs.Rounded.{_⊕_, one}
 use Rattle.lists.specs.Retain.{retain}
+use Rattle.lists.specs.Maps.{map-retain}
 use Rattle.drift.specs.declared.Nearest.{Nearest}
 use Rattle.drift.specs.declared.DriftMonitor.{DriftMonitor}
 use Rattle.drift.specs.Monitor as drift
@@ -17,10 +18,9 @@ use Rattle.model.specs.declared.link.Link.{Link}
 use Rattle.model.specs.Fading.{isMultiple}
 use Rattle.model.specs.DbState.{State}
 use Rattle.model.specs.DbInsert.{idOf, pairsOf, gainOf, microStays, linkStays, cleanup, beat, tickOf}
-use Rattle.micro.specs.declared.scan.Scan.{Scan}
+use Rattle.neighbours.specs.declared.scan.Scan.{Scan}
 use Rattle.micro.specs.Held.{cutTo, held}
-use Rattle.micro.specs.Placing.{placedAmong, nextAfter}
-use Rattle.micro.specs.Views.{map-map, stays-view}
+use Rattle.neighbours.specs.Placing.{placedAmong, nextAfter}
 use Rattle.link.specs.Among.{staysAmong, retain-among}
 use Rattle.dbstream.specs.declared.DbStream.{DbStream}
 use Rattle.dbstream.specs.Stream.{view, dimOf}
@@ -52,7 +52,7 @@ module _ (s : DbStream) (n : ℕ) (ms : List DbMicro) (ids : List MicroId) (k : 
       ∙ ap (λ (q : List DbMicro). over q (retain (linkStays (s .lambda) (s .floor) (s .t) q) (view s .links))) micros-are
     where
       micros-are : held (dimOf s) n ms ≡ retain (microStays (s .lambda) (s .floor) (s .t)) (view s .micros)
-      micros-are = ap (map (cutTo (dimOf s))) kept ∙ stays-view (dimOf s) (s .lambda) (s .floor) (s .t) (take (s .count) (s .micros))
+      micros-are = ap (map (cutTo (dimOf s))) kept ∙ map-retain (cutTo (dimOf s)) (microStays (s .lambda) (s .floor) (s .t)) (take (s .count) (s .micros))
 
       links-are : take k ls ≡ retain (linkStays (s .lambda) (s .floor) (s .t) (held (dimOf s) n ms)) (view s .links)
       links-are =

@@ -8,9 +8,9 @@ use Rattle.model.specs.declared.micro.DbMicro.{DbMicro}
 use Rattle.model.specs.declared.link.Link.{Link}
 use Rattle.model.specs.DbState.{State}
 use Rattle.model.specs.DbInsert.{pairsOf, gainOf}
-use Rattle.micro.specs.declared.scan.Scan.{Scan}
+use Rattle.neighbours.specs.declared.scan.Scan.{Scan}
 use Rattle.micro.specs.Held.{cutTo}
-use Rattle.micro.specs.Placing.{placedAmong, nextAfter}
+use Rattle.neighbours.specs.Placing.{placedAmong, nextAfter}
 use Rattle.dbstream.specs.declared.DbStream.{DbStream}
 use Rattle.dbstream.specs.Stream.{dimOf, settingsOf}
 

@@ -1,6 +1,5 @@
 // Families: strong micro-clusters, joined by dense links.
 use crate::DbStream;
-use model::MICROS;
 ghost use mathlib.Core.Path.{_≡_};
 ghost use Rattle.model.specs.DbCluster.{clusterOf};
 ghost use Rattle.dbstream.specs.Stream.{view};
@@ -10,7 +9,7 @@ impl DbStream {
     pub fn cluster(mut self) -> Self
         ensures { λ r. ⌜ view r ≡ clusterOf (view self) ⌝ }
     {
-        let n = lists::cut(self.count, MICROS);
+        let n = self.count;
         let lambda = self.lambda;
         let t = self.t;
         let micros = self.micros;

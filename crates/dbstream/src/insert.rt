@@ -3,15 +3,13 @@ use crate::DbStream;
 use feature::MAX_DIM;
 use gains::Factor;
 use gains::Pass;
-use micro::Scan;
 use model::Clock;
 use model::Insertion;
-use model::MICROS;
+use neighbours::Scan;
 ghost use Prim.Native.Nat.{_≤_};
 ghost use mathlib.Core.Path.{_≡_};
 ghost use mathlib.Core.Logic.{_≢_};
-ghost use mathlib.Core.Bool.{false, not, _||_, cond};
-ghost use lib.Dec.{eqb, ltb};
+ghost use mathlib.Core.Bool.{false, cond};
 ghost use lib.ListN.{take};
 ghost use Rattle.model.specs.Limits.{microsMost};
 ghost use Rattle.model.specs.Answers.{insertionNumber};
@@ -23,13 +21,6 @@ ghost use Rattle.dbstream.specs.Placed.{placedBy};
 pub struct Inserted {
     pub answer: Insertion,
     pub stream: DbStream,
-}
-
-// Whether the point would be absorbed, or fewer than 64 micro-clusters are held.
-fn has_place(absorbing: usize, held: usize) -> bool
-    ensures { λ r. ⌜ r ≡ (not (eqb absorbing 0) || ltb held microsMost) ⌝ }
-{
-    if absorbing == 0 { held < MICROS } else { true }
 }
 
 impl DbStream {
@@ -48,7 +39,7 @@ impl DbStream {
         let n = self.count;
         let id = self.next_id;
         let micros = self.micros;
-        let p = micro::with_point(micros, n, id, scan, x, dim, self.r, lambda, t);
+        let p = neighbours::with_point(micros, n, id, scan, x, dim, self.r, lambda, t);
         let grown = p.micros;
         self.micros = grown;
         self.count = p.count;
@@ -85,11 +76,11 @@ impl DbStream {
         ensures kept { λ r. ⌜ (insertionNumber (r .answer) ≢ 0 → r .stream ≡ self) ⌝ }
     {
         let dim = lists::cut(self.dim, MAX_DIM);
-        let n = lists::cut(self.count, MICROS);
+        let n = self.count;
         let p = model::padded(x);
         let micros = self.micros;
-        let scan = micro::scan_for(micros, n, p, dim, self.r);
-        let place = has_place(scan.count, n);
+        let scan = neighbours::scan_for(micros, n, p, dim, self.r);
+        let place = scan.has_place(n);
         let answer = model::insertion_asked(dim, x.len(), self.t, place);
         let stream = self.taken(answer.is_done(), scan, p, dim);
         Inserted { answer, stream }

@@ -56,29 +56,23 @@ impl DbStream {
     pub fn try_predict(self, x: &[f64]) -> Prediction
         ensures { λ r. ⌜ predictionSaid r ≡ predictOf (view self) (now (x .entry)) ⌝ }
     {
-        let dim = lists::cut(self.dim, MAX_DIM);
-        let got = x.len();
-        if got != dim {
-            return Prediction::Shape { expected: dim, got };
-        }
-        let p = model::padded(x);
+        let n = self.count;
         let micros = self.micros;
-        let ds = micro::distances(micros, self.count, p, dim);
+        let features = micro::features(micros, n);
         let labels = self.labels;
         let r2 = self.r * self.r;
-        let label = readout::label_for(ds, self.count, labels, self.label_count, r2);
-        Prediction::Label(label)
+        readout::predict(features, n, labels, self.label_count, r2, self.dim, x)
     }
 
     // The means one after another, the faded weights and the radii, into lent slices.
     pub fn micro_stats(self, centres: &mut [f64], weights: &mut [f64], radii: &mut [f64]) -> Reading
         ensures { λ r. ⌜ statisticsTold r (now (centres .exit)) (now (weights .exit)) (now (radii .exit)) ≡ statisticsOf (view self) (now (centres .entry)) (now (weights .entry)) (now (radii .entry)) ⌝ }
     {
-        let dim = lists::cut(self.dim, MAX_DIM);
+        let n = self.count;
         let micros = self.micros;
-        let features = micro::features(micros, self.count);
-        let faded = micro::faded_weights(micros, self.count, self.lambda, self.t);
-        readout::statistics(features, faded, self.count, dim, centres, weights, radii)
+        let features = micro::features(micros, n);
+        let faded = micro::faded_weights(micros, n, self.lambda, self.t);
+        readout::statistics(features, faded, n, self.dim, centres, weights, radii)
     }
 
     // The faded link of two live micro-clusters over the mean of their stored weights.
@@ -88,9 +82,7 @@ impl DbStream {
         let n = self.count;
         let micros = self.micros;
         let ids = micro::ids_of(micros, n);
-        let wa = micro::stored_weight(micros, n, a);
-        let wb = micro::stored_weight(micros, n, b);
-        let mean = (wa + wb) / 2.0;
+        let mean = micro::mean_weight(micros, n, a, b);
         let links = self.links;
         let lambda = self.lambda;
         link::connectivity(links, self.link_count, ids, n, a, b, mean, lambda, self.t)

@@ -1,6 +1,5 @@
 // What a stream reads out: labels, a point's label, and the potential micro-clusters' statistics.
 use crate::stream::DenStream;
-use feature::MAX_DIM;
 use model::Prediction;
 use model::Reading;
 ghost use mathlib.Core.Path.{_≡_};
@@ -30,19 +29,19 @@ impl DenStream {
         ensures { λ r. ⌜ predictionSaid r ≡ predictOf (view self) (now (x .entry)) ⌝ }
     {
         let params = self.params;
-        let dim = lists::cut(params.dim, MAX_DIM);
-        if x.len() != dim {
-            return Prediction::Shape {
-                expected: dim,
-                got: x.len(),
-            };
-        }
         let n = placement::potential_held(self.potential_count);
         let potential = self.potential;
+        let features = pool::features(potential, n);
         let labels = self.labels;
-        let point = model::padded(x);
-        let ds = pool::distances(potential, n, point, dim);
-        Prediction::Label(readout::label_for(ds, n, labels, self.label_count, params.eps2))
+        readout::predict(
+            features,
+            n,
+            labels,
+            self.label_count,
+            params.eps2,
+            params.dim,
+            x,
+        )
     }
 
     // The centres one after another, the faded weights and the radii of the potential micro-clusters.
@@ -55,11 +54,10 @@ impl DenStream {
         ensures { λ r. ⌜ statisticsTold r (now (centres .exit)) (now (weights .exit)) (now (radii .exit)) ≡ statisticsOf (view self) (now (centres .entry)) (now (weights .entry)) (now (radii .entry)) ⌝ }
     {
         let params = self.params;
-        let dim = lists::cut(params.dim, MAX_DIM);
         let n = placement::potential_held(self.potential_count);
         let potential = self.potential;
         let features = pool::features(potential, n);
         let faded = pool::faded_weights(potential, n, params.lambda, self.t);
-        readout::statistics(features, faded, n, dim, centres, weights, radii)
+        readout::statistics(features, faded, n, params.dim, centres, weights, radii)
     }
 }

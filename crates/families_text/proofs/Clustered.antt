@@ -2,7 +2,7 @@
 use Prim.Native.Nat.{ℕ, _≤_, min}
 use mathlib.Core.Path.{_≡_, refl, sym, ap, ap₂, _∙_, subst}
 use mathlib.Core.Bool.{Bool, cond}
-use mathlib.Core.List.{List, _++_, map}
+use mathlib.Core.List.{List, _++_, map, map-map}
 use native.Mathlib.Omega.{arith}
 use borrow.Author.Tests.{le-leb}
 use lib.IntN.{ℤ}
@@ -11,7 +11,6 @@ use lib.Seq.{take-append-seam}
 use Rattle.lists.specs.Maps.{map-length}
 use Rattle.lists.specs.Rest.{cut-take}
 use Rattle.micro.specs.Held.{cutTo}
-use Rattle.micro.specs.Views.{map-map}
 use Rattle.dbstream.specs.declared.DbStream.{DbStream}
 use Rattle.dbstream.specs.Stream.{view, dimOf}
 use Rattle.labels.specs.LabelLaws.{labels-tell}

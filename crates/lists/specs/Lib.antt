@@ -4,3 +4,4 @@ pub mod Loops
 pub mod Shift
 pub mod Maps
 pub mod Sizes
+pub mod Counted

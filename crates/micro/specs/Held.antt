@@ -7,7 +7,6 @@ use lib.ListN.{take}
 use Rattle.feature.specs.declared.spherical.Spherical.{Spherical}
 use Rattle.feature.specs.Feature.{within}
 use Rattle.model.specs.declared.micro.DbMicro.{DbMicro}
-use Rattle.model.specs.Fading.{distanceTo}
 use Rattle.model.specs.DbInsert.{fadedWeight}
 
 -- a micro-cluster that is kept in 15 places, as the one of dim coordinates that it is
@@ -20,9 +19,6 @@ held dim n ms = map (cutTo dim) (take n ms)
 
 abbrev pub featureOf : DbMicro → Spherical
 featureOf m = m .cf
-
-abbrev pub distancesTo : List Float → List DbMicro → List Float
-distancesTo x ms = map (λ (m : DbMicro). distanceTo x (m .cf)) ms
 
 -- "strong means faded weight ≥ min_weight"
 abbrev pub reaches : (lambda t weight : Float) → DbMicro → Bool

@@ -1,6 +1,2 @@
 pub mod Held
-pub mod Near
-pub mod Placing
-pub mod Absorbing
-pub mod Scanned
 pub mod Views

@@ -5,6 +5,7 @@ use model::MicroId;
 ghost use mathlib.Core.Path.{_≡_};
 ghost use mathlib.Core.List.{map};
 ghost use lib.ListN.{take};
+ghost use Rattle.float.specs.Rounded.{_⊕_, _⊘_, two};
 ghost use Rattle.model.specs.DbInsert.{fadedWeight};
 ghost use Rattle.model.specs.DbCluster.{storedWeight};
 ghost use Rattle.micro.specs.Held.{reaches};
@@ -48,7 +49,7 @@ pub fn strong_ones(
 }
 
 // The weight as stored of the micro-cluster of a creation number; 0 without one.
-pub fn stored_weight(micros: [DbMicro; MICROS], n: usize, id: MicroId) -> f64
+fn stored_weight(micros: [DbMicro; MICROS], n: usize, id: MicroId) -> f64
     ensures { λ r. ⌜ r ≡ storedWeight (take n micros) id ⌝ }
 {
     let k = lists::cut(n, MICROS);
@@ -63,4 +64,13 @@ pub fn stored_weight(micros: [DbMicro; MICROS], n: usize, id: MicroId) -> f64
         i += 1;
     }
     0.0
+}
+
+// The mean of two of them, "(wa + wb)/2, with the weights as stored".
+pub fn mean_weight(micros: [DbMicro; MICROS], n: usize, a: MicroId, b: MicroId) -> f64
+    ensures { λ r. ⌜ r ≡ (storedWeight (take n micros) a ⊕ storedWeight (take n micros) b) ⊘ two ⌝ }
+{
+    let wa = stored_weight(micros, n, a);
+    let wb = stored_weight(micros, n, b);
+    (wa + wb) / 2.0
 }

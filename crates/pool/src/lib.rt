@@ -7,7 +7,6 @@ mod trial;
 pub use micro::faded_weight;
 pub use micro::newborn;
 pub use pool::Pool;
-pub use pool::distances;
 pub use pool::faded_weights;
 pub use pool::features;
 pub use pool::without;

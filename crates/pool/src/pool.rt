@@ -32,7 +32,12 @@ pub fn faded_weights(pool: [Micro; MICROS], n: usize, lambda: f64, t: f64) -> [f
 }
 
 // Each one's squared distance from the point.
-pub fn distances(pool: [Micro; MICROS], n: usize, x: [f64; MAX_DIM], dim: usize) -> [f64; MICROS]
+pub(crate) fn distances(
+    pool: [Micro; MICROS],
+    n: usize,
+    x: [f64; MAX_DIM],
+    dim: usize,
+) -> [f64; MICROS]
     ensures { λ r. ⌜ take n r ≡ map (distanceIn dim (take dim x)) (take n pool) ⌝ }
 {
     let k = lists::cut(n, MICROS);

@@ -1,5 +1,5 @@
 -- Of the first features: their means one after another, each w coordinates wide, and their radii. Assumes nothing.
-use Prim.Native.Nat.{ℕ, zero, suc, _+_, _-_, _*_, _≤_, _<_, min}
+use Prim.Native.Nat.{ℕ, zero, suc, _+_, _-_, _*_, _≤_, _<_}
 use native.Mathlib.Nat.{le-refl, suc-mul, add-comm, mul-le-mul, mul-le-mul-right}
 use native.Mathlib.Numerals.{add-one}
 use native.Mathlib.Omega.{arith}
@@ -14,7 +14,6 @@ use denote.Shadow.{shadow}
 use denote.Struct.Declared.{row}
 use Rattle.model.specs.Limits.{microsMost}
 use Rattle.lists.specs.Maps.{map-length, map-getD}
-use Rattle.lists.specs.Rest.{cut-take}
 use Rattle.feature.specs.declared.spherical.Spherical.{Spherical}
 use Rattle.feature.specs.Feature.{maxDim, within}
 use Rattle.feature.proofs.spherical.Spherical.{the-type}
@@ -47,12 +46,6 @@ wide-take w (cf ∷ l) h (suc n) = (h .0, wide-take w l (h .1) n)
 wide-within : (w k : ℕ) → w ≤ k → (l : List Spherical) → Wide k l → Wide w (map (within w) l)
 wide-within w k q [] h = tt
 wide-within w k q (cf ∷ l) h = (length-take-le w (cf .mean) (let e : length (cf .mean) ≡ k = h .0 in omega arith), wide-within w k q l (h .1))
-
--- a feature has no more coordinates than its mean
-pub cut-within : (dim w k : ℕ) → w ≡ min dim k → (l : List Spherical) → Wide k l → map (within dim) l ≡ map (within w) l
-cut-within dim w k e [] h = refl
-cut-within dim w k e (cf ∷ l) h =
-    ap₂ (λ (m : List Float) (r : List Spherical). record { w = cf .w; mean = m; ssd = cf .ssd } ∷ r) (sym (cut-take w dim k (cf .mean) e (h .0))) (cut-within dim w k e l (h .1))
 
 pub radii-within : (w : ℕ) (l : List Spherical) → map radiusOf (map (within w) l) ≡ map radiusOf l
 radii-within w [] = refl

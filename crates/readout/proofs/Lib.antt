@@ -4,3 +4,4 @@ pub mod Counting
 pub mod Centres
 pub mod Labelled
 pub mod Slices
+pub mod Predicting

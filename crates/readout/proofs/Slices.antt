@@ -16,9 +16,10 @@ use Rattle.feature.specs.declared.spherical.Spherical.{Spherical}
 use Rattle.model.specs.declared.answers.Reading.the-variants.{Written, TooShort}
 use Rattle.model.specs.Fading.{radiusOf}
 use Rattle.model.specs.ReadOut.{Statistics, written, centresOf, labelsRead, statisticsRead}
+use Rattle.readout.specs.Seen.{seen}
 use Rattle.readout.specs.Told.{labelsTold, statisticsTold}
 use Rattle.readout.proofs.Copies.{cut-length}
-use Rattle.readout.proofs.Centres.{Wide, wide-take, cut-within, radii-within, radii-length, centresDue, due-length}
+use Rattle.readout.proofs.Centres.{Wide, radii-within, radii-length, centresDue, due-length}
 
 module _ (due lent : List ℤ) where
   labels-by : (b : Bool) → leb (length due) (length lent) ≡ b → labelsRead due lent ≡ cond b (labelsTold Written (written due lent)) (labelsTold TooShort lent)
@@ -39,33 +40,31 @@ pub record Counted (features : List Spherical) (weights : List Float) (n end dim
   pub weights-long : length weights ≡ microsMost
 
 module _ {features : List Spherical} {weights : List Float} {n end dim w : ℕ} (q : Counted features weights n end dim w) where
-  abbrev seen : List Spherical
-  seen = map (within dim) (take n features)
+  abbrev due : List Spherical
+  due = seen dim n features
 
-  seen-is : seen ≡ map (within w) (take end features)
-  seen-is =
-      cut-within dim w maxDim (q .w-is) (take n features) (wide-take maxDim features (q .wide) n)
-      ∙ ap (map (within w)) (sym (cut-take end n microsMost features (q .end-is) (q .features-long)))
+  seen-is : due ≡ map (within w) (take end features)
+  seen-is = ap₂ (λ (d : ℕ) (l : List Spherical). map (within d) l) (sym (q .w-is)) (sym (cut-take end n microsMost features (q .end-is) (q .features-long)))
 
-  radii-is : map radiusOf seen ≡ map radiusOf (take end features)
+  radii-is : map radiusOf due ≡ map radiusOf (take end features)
   radii-is = ap (map radiusOf) seen-is ∙ radii-within w (take end features)
 
   weights-is : take n weights ≡ take end weights
   weights-is = sym (cut-take end n microsMost weights (q .end-is) (q .weights-long))
 
-  centres-count : length (centresOf seen) ≡ end * w
+  centres-count : length (centresOf due) ≡ end * w
   centres-count = ap (λ (l : List Spherical). length (centresOf l)) seen-is ∙ due-length w end features (q .wide) (omega arith) (omega arith)
 
-  radii-count : length (map radiusOf seen) ≡ end
+  radii-count : length (map radiusOf due) ≡ end
   radii-count = ap length radii-is ∙ radii-length end features (omega arith)
 
   module _ (centres faded radii : List Float) where
     abbrev all : Statistics
-    all = statisticsTold Written (written (centresOf seen) centres) (written (take n weights) faded) (written (map radiusOf seen) radii)
+    all = statisticsTold Written (written (centresOf due) centres) (written (take n weights) faded) (written (map radiusOf due) radii)
 
     read-by :
         (a b c : Bool) → leb (end * w) (length centres) ≡ a → leb end (length faded) ≡ b → leb end (length radii) ≡ c →
-        statisticsRead seen (take n weights) centres faded radii ≡ cond (a && b && c) all (statisticsTold TooShort centres faded radii)
+        statisticsRead due (take n weights) centres faded radii ≡ cond (a && b && c) all (statisticsTold TooShort centres faded radii)
     read-by a b c ea eb ec =
         ap (λ (t : Bool). cond t all (statisticsTold TooShort centres faded radii))
         (ap₂ (λ (s t : Bool). s && t)
@@ -74,21 +73,21 @@ module _ {features : List Spherical} {weights : List Float} {n end dim w : ℕ} 
         (ap (λ (k : ℕ). leb k (length faded)) (cut-length n end microsMost weights (q .end-is) (q .weights-long)) ∙ eb))
         (ap (λ (k : ℕ). leb k (length radii)) radii-count ∙ ec))
 
-    pub short-centres : length centres < end * w → statisticsTold TooShort centres faded radii ≡ statisticsRead seen (take n weights) centres faded radii
+    pub short-centres : length centres < end * w → statisticsTold TooShort centres faded radii ≡ statisticsRead due (take n weights) centres faded radii
     short-centres h = sym (read-by false (leb end (length faded)) (leb end (length radii)) (lt-leb (end * w) (length centres) h) refl refl)
 
     module _ (hc : end * w ≤ length centres) where
-      pub short-weights : length faded < end → statisticsTold TooShort centres faded radii ≡ statisticsRead seen (take n weights) centres faded radii
+      pub short-weights : length faded < end → statisticsTold TooShort centres faded radii ≡ statisticsRead due (take n weights) centres faded radii
       short-weights h = sym (read-by true false (leb end (length radii)) (le-leb (end * w) (length centres) hc) (lt-leb end (length faded) h) refl)
 
       module _ (hw : end ≤ length faded) where
-        pub short-radii : length radii < end → statisticsTold TooShort centres faded radii ≡ statisticsRead seen (take n weights) centres faded radii
+        pub short-radii : length radii < end → statisticsTold TooShort centres faded radii ≡ statisticsRead due (take n weights) centres faded radii
         short-radii h = sym (read-by true true false (le-leb (end * w) (length centres) hc) (le-leb end (length faded) hw) (lt-leb end (length radii) h))
 
         pub all-written :
             end ≤ length radii → (c f r : List Float) →
             c ≡ written (centresDue w end features) centres → f ≡ written (take end weights) faded → r ≡ written (map radiusOf (take end features)) radii →
-            statisticsTold Written c f r ≡ statisticsRead seen (take n weights) centres faded radii
+            statisticsTold Written c f r ≡ statisticsRead due (take n weights) centres faded radii
         all-written hr c f r ec ef er =
             ap₃
             (ec ∙ ap (λ (l : List Spherical). written (centresOf l) centres) (sym seen-is))

@@ -13,7 +13,7 @@ ghost use Rattle.model.specs.ReadOut.{written, labelsRead, sameFamily, clusters
 ghost use Rattle.readout.specs.Told.{labelAmong, labelsTold};
 
 // The label of the nearest; -1 if the counts differ, none exists, or the nearest is too far.
-pub fn label_for(
+pub(crate) fn label_for(
     distances: [f64; MICROS],
     n: usize,
     labels: [i64; MICROS],

@@ -12,6 +12,7 @@ ghost use Rattle.feature.specs.Feature.{maxDim, within};
 ghost use Rattle.model.specs.Fading.{radiusOf};
 ghost use Rattle.model.specs.Limits.{microsMost};
 ghost use Rattle.model.specs.ReadOut.{written, centresOf, statisticsRead};
+ghost use Rattle.readout.specs.Seen.{seen};
 ghost use Rattle.readout.specs.Told.{statisticsTold};
 
 // The means' first coordinates, one mean after another.
@@ -41,7 +42,7 @@ fn write_radii(features: [Spherical; MICROS], end: usize, out: &mut [f64])
     }
 }
 
-// Of the first n features, cut to dim coordinates, and their faded weights. Every slice is asked before one is written.
+// Of the first n features, of dim coordinates, and their faded weights. Every slice is asked before one is written.
 pub fn statistics(
     features: [Spherical; MICROS],
     weights: [f64; MICROS],
@@ -51,7 +52,7 @@ pub fn statistics(
     out_weights: &mut [f64],
     radii: &mut [f64],
 ) -> Reading
-    ensures { λ r. ⌜ statisticsTold r (now (centres .exit)) (now («out_weights» .exit)) (now (radii .exit)) ≡ statisticsRead (map (within dim) (take n features)) (take n weights) (now (centres .entry)) (now («out_weights» .entry)) (now (radii .entry)) ⌝ }
+    ensures { λ r. ⌜ statisticsTold r (now (centres .exit)) (now («out_weights» .exit)) (now (radii .exit)) ≡ statisticsRead (seen dim n features) (take n weights) (now (centres .entry)) (now («out_weights» .entry)) (now (radii .entry)) ⌝ }
 {
     let end = lists::cut(n, MICROS);
     let width = lists::cut(dim, MAX_DIM);

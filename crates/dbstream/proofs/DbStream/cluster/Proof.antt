@@ -1,12 +1,7 @@
-use mathlib.Core.Path.{sym, _∙_}
-use lib.ListN.{length-map}
 use Rattle.dbstream.proofs.Labels.{clustered}
 use borrow.Author.Needs.{needs}
 use Rattle.dbstream.proofs.DbStream.cluster.Statement.{statement}
 use Rattle.dbstream.proofs.DbStream.cluster.Tie as tie
-
-cut-requires : tie.Need-cut-requires
-cut-requires c κs = search needs
 
 strong-ones-requires : tie.Need-strong-ones-requires
 strong-ones-requires c κs = search needs
@@ -19,14 +14,12 @@ labels-of-requires c κs = search needs
 
 returns : tie.Need-returns
 returns c =
-    let e = c .before .before .before .before .before .before .before in
-    let s = e .args .self in
-    let n = c .before .before .before .before .before .before .cut in
+    let s = c .before .before .before .before .before .before .args .self in
     let strong = c .before .before .before .before .strong-ones in
     let ids = c .before .before .before .ids-of in
-    clustered s (n .result) (n .ensures) (sym (length-map (s .micros) _) ∙ e .good .0 .1 .1 .1 .1 .1 .1 .1 .1 .1 .1 .1 .0 .1 .0 .1) (strong .result) (strong .ensures) (ids .result) (ids .ensures) (c .labels-of .result) (c .labels-of .ensures)
+    clustered s (strong .result) (strong .ensures) (ids .result) (ids .ensures) (c .labels-of .result) (c .labels-of .ensures)
 
 pub cluster-spec : {M : Type 1} → statement M
 cluster-spec =
     tie.close
-    (tie.spec cut-requires strong-ones-requires ids-of-requires labels-of-requires returns)
+    (tie.spec strong-ones-requires ids-of-requires labels-of-requires returns)

@@ -1,16 +1,9 @@
-use mathlib.Core.Path.{ap₂, _∙_}
-use mathlib.Core.List.{List}
-use lib.Ieee.{Float}
+-- `micro_stats` meets its contract. Assumes nothing.
 use lib.ListN.{take}
-use Rattle.feature.specs.declared.spherical.Spherical.{Spherical}
-use Rattle.model.specs.ReadOut.{statisticsRead}
-use Rattle.dbstream.proofs.Readings.{features-are, weights-are}
 use borrow.Author.Needs.{needs}
+use Rattle.dbstream.proofs.Readings.{told}
 use Rattle.dbstream.proofs.DbStream.micro_stats.Statement.{statement}
 use Rattle.dbstream.proofs.DbStream.micro_stats.Tie as tie
-
-cut-requires : tie.Need-cut-requires
-cut-requires c κs = search needs
 
 features-requires : tie.Need-features-requires
 features-requires c κs = search needs
@@ -32,18 +25,15 @@ same-length-3 c = search needs
 
 returns : tie.Need-returns
 returns c =
-    let a = c .before .before .before .before .before .before .before .before .before .before .before .before .before .before .before .before .before .args in
-    let s = a .self in
-    c .before .before .before .before .before .before .statistics .ensures
-    ∙ ap₂ (λ (fs : List Spherical) (ws : List Float). statisticsRead fs ws (a .centres .now) (a .weights .now) (a .radii .now))
-    (features-are s (c .before .before .before .before .before .before .before .before .before .before .before .before .before .cut .result) (c .before .before .before .before .before .before .before .before .before .before .before .features .result) (c .before .before .before .before .before .before .before .before .before .before .before .before .before .cut .ensures) (c .before .before .before .before .before .before .before .before .before .before .before .features .ensures))
-    (weights-are s (take (s .count) (c .before .before .before .before .before .before .before .before .before .before .«faded-weights» .result)) (c .before .before .before .before .before .before .before .before .before .before .«faded-weights» .ensures))
+    let a = c .before .before .before .before .before .before .before .before .before .before .before .before .before .before .before .before .args in
+    let cfs = c .before .before .before .before .before .before .before .before .before .before .before .features in
+    let ws = c .before .before .before .before .before .before .before .before .before .before .faded-weights in
+    told (a .self) (cfs .result) (cfs .ensures) (take (a .self .count) (ws .result)) (a .centres .now) (a .weights .now) (a .radii .now) _ (ws .ensures) (c .before .before .before .before .before .before .statistics .ensures)
 
 pub micro-stats-spec : {M : Type 1} → statement M
 micro-stats-spec =
     tie.close
     (tie.spec
-    cut-requires
     features-requires
     faded-weights-requires
     statistics-requires

@@ -10,9 +10,6 @@ use Rattle.dbstream.proofs.DbStream.try_insert.Tie as tie
 cut-requires : tie.Need-cut-requires
 cut-requires c κs = search needs
 
-cut-requires-2 : tie.Need-cut-requires-2
-cut-requires-2 c κs = search needs
-
 padded-requires : tie.Need-padded-requires
 padded-requires c κs = search needs
 
@@ -20,17 +17,19 @@ scan-for-requires : tie.Need-scan-for-requires
 scan-for-requires c κs = search needs
 
 -- what is known once the micro-clusters are scanned
-met : (c : tie.After-scan-for) → Met (c .before .before .before .before .before .before .args .self) (c .before .before .before .before .before .before .args .x .now) (take (c .before .before .before .before .cut .result) (c .before .before .padded .result)) (c .before .before .before .before .cut .result) (c .before .before .before .cut2 .result) (c .scan-for .result)
+met :
+    (c : tie.After-scan-for) →
+    let e = c .before .before .before .before .before in
+    let d = c .before .before .before .cut .result in
+    Met (e .args .self) (e .args .x .now) (take d (c .before .before .padded .result)) d (c .scan-for .result)
 met c =
-    let e = c .before .before .before .before .before .before in
+    let e = c .before .before .before .before .before in
     let s = e .args .self in
-    let d = c .before .before .before .before .cut .ensures in
+    let d = c .before .before .before .cut in
     record {
-      coordinates = d;
-      point = λ ex. point-is (e .args .x .now) (c .before .before .padded .result) (c .before .before .before .before .cut .result) ex (omega (arith, d)) (c .before .before .padded .ensures);
-      held-is = c .before .before .before .cut2 .ensures;
+      coordinates = d .ensures;
+      point = λ ex. point-is (e .args .x .now) (c .before .before .padded .result) (d .result) ex (omega (arith, d .ensures)) (c .before .before .padded .ensures);
       places = sym (length-map (s .micros) _) ∙ e .good .0 .1 .1 .1 .1 .1 .1 .1 .1 .1 .1 .1 .0 .1 .0 .1;
-      distances-places = sym (length-map (c .scan-for .result .distances) _) ∙ c .scan-for .ok .1 .1 .0 .1 .0 .1;
       ids-places = sym (length-map (c .scan-for .result .ids) _) ∙ c .scan-for .ok .1 .1 .1 .1 .0 .1 .0 .1;
       scanned = c .scan-for .ensures;
     }
@@ -60,7 +59,6 @@ try-insert-spec =
     tie.close
     (tie.spec
     cut-requires
-    cut-requires-2
     padded-requires
     scan-for-requires
     has-place-requires

@@ -5,20 +5,18 @@ use native.Mathlib.Omega.{arith}
 use lib.Ieee.{le, nan}
 use lib.ListN.{getD}
 use borrow.Author.Needs.{needs}
-use Rattle.pool.proofs.Counted.{Gathered, gather-from, gather-next, gathered}
+use Rattle.lists.specs.Counted.{Gathered, gather-starts, gather-goes, gather-ends}
 use Rattle.grouping.proofs.groups.reaching.Statement.{statement}
 use Rattle.grouping.proofs.groups.reaching.Tie as tie
 
 abbrev Inv-loop : tie.InvT-loop
-Inv-loop n mu roots sums counts₀ i₀ counts i = Gathered (λ (v : ℕ). le mu (getD sums v nan)) n roots n counts i
+Inv-loop n mu roots sums counts₀ i₀ counts i = Gathered (λ (v : ℕ). le mu (getD sums v nan)) 64 n n roots counts i
 
 abbrev μ-loop : tie.MeasureT-loop
 μ-loop n mu roots sums counts₀ i₀ counts i = n - i
 
 loop-holds : tie.Need-loop-holds Inv-loop μ-loop
-loop-holds c =
-    let a = c .args in
-    gather-from (λ (v : ℕ). le (a .mu) (getD (a .t2) v nan)) (a .n) (a .t1) (a .n) _ (omega (arith, c .pre .0)) (omega arith) (search needs)
+loop-holds c = gather-starts (omega (arith, c .pre .0)) (omega arith) (search needs)
 
 mul-v : tie.Need-mul-v Inv-loop μ-loop
 mul-v c = search needs
@@ -42,16 +40,10 @@ loop-less : tie.Need-loop-less Inv-loop μ-loop
 loop-less c = search needs
 
 loop-again : tie.Need-loop-again Inv-loop μ-loop
-loop-again c =
-    let a = c .before .before .args in
-    let l = c .before .loop in
-    gather-next (λ (v : ℕ). le (a .mu) (getD (a .t2) v nan)) (a .n) (a .t1) (a .n) (l .counts) (l .i) (l .inv) (omega arith) 0 _ (c .loop-test .taken) refl
+loop-again c = gather-goes (c .before .loop .inv) 0 (c .loop-test .taken) refl
 
 returns : tie.Need-returns Inv-loop μ-loop
-returns c =
-    let a = c .before .before .args in
-    let l = c .before .loop in
-    gathered (λ (v : ℕ). le (a .mu) (getD (a .t2) v nan)) (a .n) (a .t1) (a .n) (l .counts) (l .i) (l .inv) (c .loop-test .left)
+returns c = gather-ends (c .before .loop .inv) (c .loop-test .left)
 
 pub reaching-spec : {M : Type 1} → statement M
 reaching-spec =

@@ -1,19 +1,15 @@
-use Prim.Native.Nat.{_≤_, _<_, _-_}
-use mathlib.Core.Path.{_≡_, refl, sym, ap, _∙_}
-use mathlib.Core.List.{_++_}
+-- `retained` meets its contract. Assumes nothing.
+use Prim.Native.Nat.{_-_}
 use mathlib.Core.Logic.{⊎-elim}
 use native.Mathlib.Omega.{arith}
-use lib.ListN.{length, take, length-set}
-use Rattle.lists.specs.Retain.{retain}
-use Rattle.lists.specs.Rest.{rest, cut-start}
-use Rattle.lists.specs.Loops.{retain-take, retain-drop, retain-end}
+use Rattle.lists.specs.Counted.{Kept, keep-starts, keep-takes, keep-drops, keep-ends, kept-fit}
 use Rattle.model.specs.DbInsert.{microStays}
 use borrow.Author.Needs.{needs}
 use Rattle.micro.proofs.cleanup.retained.Statement.{statement}
 use Rattle.micro.proofs.cleanup.retained.Tie as tie
 
 abbrev Inv-loop : tie.InvT-loop
-Inv-loop n lambda t floor micros₀ end i₀ j₀ micros i j = (j ≤ i) × (i ≤ end) × (end ≤ 64) × (length micros ≡ 64) × (take j micros ++ retain (microStays lambda floor t) (rest end i micros) ≡ retain (microStays lambda floor t) (take n micros₀))
+Inv-loop n lambda t floor micros₀ end i₀ j₀ micros i j = Kept (microStays lambda floor t) 64 n end micros₀ micros i j
 
 abbrev μ-loop : tie.MeasureT-loop
 μ-loop n lambda t floor micros₀ end i₀ j₀ micros i j = end - i
@@ -22,9 +18,7 @@ cut-requires : tie.Need-cut-requires Inv-loop μ-loop
 cut-requires c κs = search needs
 
 loop-holds : tie.Need-loop-holds Inv-loop μ-loop
-loop-holds c =
-    let a = c .before .args in
-    (omega arith, omega arith, omega arith, omega arith, ap (retain (microStays (a .lambda) (a .floor) (a .t))) (cut-start _ (a .n) 64 (a .t1) (c .cut .ensures) (omega arith)))
+loop-holds c = keep-starts (c .cut .ensures) (omega arith)
 
 mul-m : tie.Need-mul-m Inv-loop μ-loop
 mul-m c = search needs
@@ -53,23 +47,12 @@ loop-less c = search needs
 loop-again : tie.Need-loop-again Inv-loop μ-loop
 loop-again c =
     let k = c .before .before .before .before .loop in
-    let a = c .before .before .before .before .before .before .args in
-    let n = c .before .before .before .before .before .cut .result in
-    let q = k .inv in
-    let h : k .i < n = c .before .before .before .loop-test .taken in
-    let km : n ≤ length (k .micros) = omega arith in
+    let h = c .before .before .before .loop-test .taken in
     let v = c .before .stays .ensures in
-    let p = microStays (a .lambda) (a .floor) (a .t) in
-    ⊎-elim
-    (λ w. rw (w .1, w .2) (omega arith, omega arith, q .2, simp length-set (q .3), retain-take p n (k .i) (k .j) (k .micros) _ h km _ (q .0) refl (sym v ∙ w .0 .taken) ∙ q .4))
-    (λ w. rw (w .1, w .2) (omega arith, omega arith, q .2, q .3, retain-drop p n (k .i) (k .j) (k .micros) _ h km (sym v ∙ w .0 .left) ∙ q .4))
-    (c .if1 .came)
+    ⊎-elim (λ w. keep-takes (k .inv) _ _ _ _ h v (w .0 .taken) (w .1) (w .2)) (λ w. keep-drops (k .inv) _ _ _ _ h v (w .0 .left) (w .1) (w .2)) (c .if1 .came)
 
 returns : tie.Need-returns Inv-loop μ-loop
-returns c =
-    let k = c .before .loop in
-    let a = c .before .before .before .args in
-    (sym (retain-end (microStays (a .lambda) (a .floor) (a .t)) (c .before .before .cut .result) (k .i) (k .j) (k .micros) (omega arith)) ∙ k .inv .4, omega arith)
+returns c = (keep-ends (c .before .loop .inv) (c .loop-test .left), kept-fit (c .before .loop .inv))
 
 pub retained-spec : {M : Type 1} → statement M
 retained-spec =

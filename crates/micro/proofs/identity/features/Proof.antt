@@ -2,13 +2,13 @@ use Prim.Native.Nat.{_-_}
 use mathlib.Core.Path.{refl}
 use native.Mathlib.Omega.{arith}
 use Rattle.micro.specs.Held.{featureOf}
-use Rattle.micro.proofs.Gathering.{Gathered, gather-starts, gather-goes, gather-ends}
+use Rattle.lists.specs.Counted.{Gathered, gather-starts, gather-goes, gather-ends}
 use borrow.Author.Needs.{needs}
 use Rattle.micro.proofs.identity.features.Statement.{statement}
 use Rattle.micro.proofs.identity.features.Tie as tie
 
 abbrev Inv-loop : tie.InvT-loop
-Inv-loop n micros k cfs₀ i₀ cfs i = Gathered featureOf n k micros cfs i
+Inv-loop n micros k cfs₀ i₀ cfs i = Gathered featureOf 64 n k micros cfs i
 
 abbrev μ-loop : tie.MeasureT-loop
 μ-loop n micros k cfs₀ i₀ cfs i = k - i

@@ -2,13 +2,13 @@ use Prim.Native.Nat.{_-_}
 use mathlib.Core.Path.{refl}
 use native.Mathlib.Omega.{arith}
 use Rattle.model.specs.DbInsert.{idOf}
-use Rattle.micro.proofs.Gathering.{Gathered, gather-starts, gather-goes, gather-ends}
+use Rattle.lists.specs.Counted.{Gathered, gather-starts, gather-goes, gather-ends}
 use borrow.Author.Needs.{needs}
 use Rattle.micro.proofs.identity.ids_of.Statement.{statement}
 use Rattle.micro.proofs.identity.ids_of.Tie as tie
 
 abbrev Inv-loop : tie.InvT-loop
-Inv-loop n micros k ids₀ i₀ ids i = Gathered idOf n k micros ids i
+Inv-loop n micros k ids₀ i₀ ids i = Gathered idOf 64 n k micros ids i
 
 abbrev μ-loop : tie.MeasureT-loop
 μ-loop n micros k ids₀ i₀ ids i = k - i

@@ -2,13 +2,13 @@ use Prim.Native.Nat.{_-_}
 use mathlib.Core.Path.{refl}
 use native.Mathlib.Omega.{arith}
 use Rattle.model.specs.DbInsert.{fadedWeight}
-use Rattle.micro.proofs.Gathering.{Gathered, gather-starts, gather-goes, gather-ends}
+use Rattle.lists.specs.Counted.{Gathered, gather-starts, gather-goes, gather-ends}
 use borrow.Author.Needs.{needs}
 use Rattle.micro.proofs.weight.faded_weights.Statement.{statement}
 use Rattle.micro.proofs.weight.faded_weights.Tie as tie
 
 abbrev Inv-loop : tie.InvT-loop
-Inv-loop n lambda t micros k weights₀ i₀ weights i = Gathered (fadedWeight lambda t) n k micros weights i
+Inv-loop n lambda t micros k weights₀ i₀ weights i = Gathered (fadedWeight lambda t) 64 n k micros weights i
 
 abbrev μ-loop : tie.MeasureT-loop
 μ-loop n lambda t micros k weights₀ i₀ weights i = k - i

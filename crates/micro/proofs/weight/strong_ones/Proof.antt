@@ -3,13 +3,13 @@ use mathlib.Core.Path.{refl, ap}
 use native.Mathlib.Omega.{arith}
 use lib.Ieee.{Float, le}
 use Rattle.micro.specs.Held.{reaches}
-use Rattle.micro.proofs.Gathering.{Gathered, gather-starts, gather-goes, gather-ends}
+use Rattle.lists.specs.Counted.{Gathered, gather-starts, gather-goes, gather-ends}
 use borrow.Author.Needs.{needs}
 use Rattle.micro.proofs.weight.strong_ones.Statement.{statement}
 use Rattle.micro.proofs.weight.strong_ones.Tie as tie
 
 abbrev Inv-loop : tie.InvT-loop
-Inv-loop n lambda t min-weight micros k strong₀ i₀ strong i = Gathered (reaches lambda t min-weight) n k micros strong i
+Inv-loop n lambda t min-weight micros k strong₀ i₀ strong i = Gathered (reaches lambda t min-weight) 64 n k micros strong i
 
 abbrev μ-loop : tie.MeasureT-loop
 μ-loop n lambda t min-weight micros k strong₀ i₀ strong i = k - i

@@ -4,12 +4,12 @@ use native.Mathlib.Omega.{arith}
 use lib.ListN.{take}
 use borrow.Author.Needs.{needs}
 use Rattle.pool.specs.Held.{distanceIn}
-use Rattle.pool.proofs.Counted.{Gathered, gather-from, gather-next, gathered}
+use Rattle.lists.specs.Counted.{Gathered, gather-starts, gather-goes, gather-ends}
 use Rattle.pool.proofs.pool.distances.Statement.{statement}
 use Rattle.pool.proofs.pool.distances.Tie as tie
 
 abbrev Inv-loop : tie.InvT-loop
-Inv-loop n x dim pool k ds₀ i₀ ds i = Gathered (distanceIn dim (take dim x)) n pool k ds i
+Inv-loop n x dim pool k ds₀ i₀ ds i = Gathered (distanceIn dim (take dim x)) 64 n k pool ds i
 
 abbrev μ-loop : tie.MeasureT-loop
 μ-loop n x dim pool k ds₀ i₀ ds i = k - i
@@ -18,9 +18,7 @@ cut-requires : tie.Need-cut-requires Inv-loop μ-loop
 cut-requires c κs = search needs
 
 loop-holds : tie.Need-loop-holds Inv-loop μ-loop
-loop-holds c =
-    let a = c .before .args in
-    gather-from (distanceIn (a .dim) (take (a .dim) (a .x))) (a .n) (a .t1) _ _ (c .cut .ensures) (omega arith) (search needs)
+loop-holds c = gather-starts (c .cut .ensures) (omega arith) (search needs)
 
 mul-m : tie.Need-mul-m Inv-loop μ-loop
 mul-m c = search needs
@@ -44,16 +42,10 @@ loop-less : tie.Need-loop-less Inv-loop μ-loop
 loop-less c = search needs
 
 loop-again : tie.Need-loop-again Inv-loop μ-loop
-loop-again c =
-    let a = c .before .before .before .before .before .before .before .args in
-    let l = c .before .before .before .before .before .loop in
-    gather-next (distanceIn (a .dim) (take (a .dim) (a .x))) (a .n) (a .t1) _ (l .ds) (l .i) (l .inv) (omega arith) _ _ (c .before .before .before .before .loop-test .taken) (c .sq-euclidean .ensures)
+loop-again c = gather-goes (c .before .before .before .before .before .loop .inv) _ (c .before .before .before .before .loop-test .taken) (c .sq-euclidean .ensures)
 
 returns : tie.Need-returns Inv-loop μ-loop
-returns c =
-    let a = c .before .before .before .args in
-    let l = c .before .loop in
-    gathered (distanceIn (a .dim) (take (a .dim) (a .x))) (a .n) (a .t1) _ (l .ds) (l .i) (l .inv) (c .loop-test .left)
+returns c = gather-ends (c .before .loop .inv) (c .loop-test .left)
 
 pub distances-spec : {M : Type 1} → statement M
 distances-spec =

@@ -3,12 +3,12 @@ use Prim.Native.Nat.{_-_}
 use native.Mathlib.Omega.{arith}
 use borrow.Author.Needs.{needs}
 use Rattle.model.specs.DenInsert.{fadedWeight}
-use Rattle.pool.proofs.Counted.{Gathered, gather-from, gather-next, gathered}
+use Rattle.lists.specs.Counted.{Gathered, gather-starts, gather-goes, gather-ends}
 use Rattle.pool.proofs.pool.faded_weights.Statement.{statement}
 use Rattle.pool.proofs.pool.faded_weights.Tie as tie
 
 abbrev Inv-loop : tie.InvT-loop
-Inv-loop n lambda t pool k w₀ i₀ w i = Gathered (fadedWeight lambda t) n pool k w i
+Inv-loop n lambda t pool k w₀ i₀ w i = Gathered (fadedWeight lambda t) 64 n k pool w i
 
 abbrev μ-loop : tie.MeasureT-loop
 μ-loop n lambda t pool k w₀ i₀ w i = k - i
@@ -17,9 +17,7 @@ cut-requires : tie.Need-cut-requires Inv-loop μ-loop
 cut-requires c κs = search needs
 
 loop-holds : tie.Need-loop-holds Inv-loop μ-loop
-loop-holds c =
-    let a = c .before .args in
-    gather-from (fadedWeight (a .lambda) (a .t)) (a .n) (a .t1) _ _ (c .cut .ensures) (omega arith) (search needs)
+loop-holds c = gather-starts (c .cut .ensures) (omega arith) (search needs)
 
 mul-m : tie.Need-mul-m Inv-loop μ-loop
 mul-m c = search needs
@@ -43,16 +41,10 @@ loop-less : tie.Need-loop-less Inv-loop μ-loop
 loop-less c = search needs
 
 loop-again : tie.Need-loop-again Inv-loop μ-loop
-loop-again c =
-    let a = c .before .before .before .before .before .args in
-    let l = c .before .before .before .loop in
-    gather-next (fadedWeight (a .lambda) (a .t)) (a .n) (a .t1) _ (l .w) (l .i) (l .inv) (omega arith) _ _ (c .before .before .loop-test .taken) (c .faded-weight .ensures)
+loop-again c = gather-goes (c .before .before .before .loop .inv) _ (c .before .before .loop-test .taken) (c .faded-weight .ensures)
 
 returns : tie.Need-returns Inv-loop μ-loop
-returns c =
-    let a = c .before .before .before .args in
-    let l = c .before .loop in
-    gathered (fadedWeight (a .lambda) (a .t)) (a .n) (a .t1) _ (l .w) (l .i) (l .inv) (c .loop-test .left)
+returns c = gather-ends (c .before .loop .inv) (c .loop-test .left)
 
 pub faded-weights-spec : {M : Type 1} → statement M
 faded-weights-spec =

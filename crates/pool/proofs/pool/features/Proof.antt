@@ -4,12 +4,12 @@ use mathlib.Core.Path.{refl}
 use native.Mathlib.Omega.{arith}
 use borrow.Author.Needs.{needs}
 use Rattle.pool.specs.Held.{featureOf}
-use Rattle.pool.proofs.Counted.{Gathered, gather-from, gather-next, gathered}
+use Rattle.lists.specs.Counted.{Gathered, gather-starts, gather-goes, gather-ends}
 use Rattle.pool.proofs.pool.features.Statement.{statement}
 use Rattle.pool.proofs.pool.features.Tie as tie
 
 abbrev Inv-loop : tie.InvT-loop
-Inv-loop n pool k fs₀ i₀ fs i = Gathered featureOf n pool k fs i
+Inv-loop n pool k fs₀ i₀ fs i = Gathered featureOf 64 n k pool fs i
 
 abbrev μ-loop : tie.MeasureT-loop
 μ-loop n pool k fs₀ i₀ fs i = k - i
@@ -21,9 +21,7 @@ new-requires : tie.Need-new-requires Inv-loop μ-loop
 new-requires c κs = search needs
 
 loop-holds : tie.Need-loop-holds Inv-loop μ-loop
-loop-holds c =
-    let a = c .before .before .args in
-    gather-from featureOf (a .n) (a .t1) _ _ (c .before .cut .ensures) (omega arith) (search needs)
+loop-holds c = gather-starts (c .before .cut .ensures) (omega arith) (search needs)
 
 mul-m : tie.Need-mul-m Inv-loop μ-loop
 mul-m c = search needs
@@ -44,16 +42,10 @@ loop-less : tie.Need-loop-less Inv-loop μ-loop
 loop-less c = search needs
 
 loop-again : tie.Need-loop-again Inv-loop μ-loop
-loop-again c =
-    let a = c .before .before .before .before .before .before .args in
-    let l = c .before .before .before .loop in
-    gather-next featureOf (a .n) (a .t1) _ (l .fs) (l .i) (l .inv) (omega arith) _ _ (c .before .before .loop-test .taken) refl
+loop-again c = gather-goes (c .before .before .before .loop .inv) _ (c .before .before .loop-test .taken) refl
 
 returns : tie.Need-returns Inv-loop μ-loop
-returns c =
-    let a = c .before .before .before .before .args in
-    let l = c .before .loop in
-    gathered featureOf (a .n) (a .t1) _ (l .fs) (l .i) (l .inv) (c .loop-test .left)
+returns c = gather-ends (c .before .loop .inv) (c .loop-test .left)
 
 pub features-spec : {M : Type 1} → statement M
 features-spec =

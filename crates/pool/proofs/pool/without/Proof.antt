@@ -2,7 +2,7 @@
 use Prim.Native.Nat.{_-_}
 use native.Mathlib.Omega.{arith}
 use borrow.Author.Needs.{needs}
-use Rattle.pool.proofs.Counted.{Shifted, shift-from, shift-next, shifted, without-none}
+use Rattle.pool.proofs.Removal.{Shifted, shift-from, shift-next, shifted, without-none}
 use Rattle.pool.proofs.pool.without.Statement.{statement}
 use Rattle.pool.proofs.pool.without.Tie as tie
 

@@ -1,16 +1,15 @@
 -- `prune_potential` meets its contract. Assumes nothing.
 use Prim.Native.Nat.{_-_}
-use mathlib.Core.Path.{sym, _∙_}
 use mathlib.Core.Logic.{⊎-elim}
 use native.Mathlib.Omega.{arith}
 use borrow.Author.Needs.{needs}
 use Rattle.model.specs.DenInsert.{potentialStays}
-use Rattle.pool.proofs.Counted.{Kept, keep-from, keep-one, drop-one, keep-end}
+use Rattle.lists.specs.Counted.{Kept, keep-starts, keep-takes, keep-drops, keep-ends, kept-length}
 use Rattle.pool.proofs.pruning.prune_potential.Statement.{statement}
 use Rattle.pool.proofs.pruning.prune_potential.Tie as tie
 
 abbrev Inv-loop : tie.InvT-loop
-Inv-loop n params t pool₀ k i₀ count₀ pool i count = Kept (potentialStays params t) n pool₀ k pool i count
+Inv-loop n params t pool₀ k i₀ count₀ pool i count = Kept (potentialStays params t) 64 n k pool₀ pool i count
 
 abbrev μ-loop : tie.MeasureT-loop
 μ-loop n params t pool₀ k i₀ count₀ pool i count = k - i
@@ -19,9 +18,7 @@ cut-requires : tie.Need-cut-requires Inv-loop μ-loop
 cut-requires c κs = search needs
 
 loop-holds : tie.Need-loop-holds Inv-loop μ-loop
-loop-holds c =
-    let a = c .before .args in
-    keep-from (potentialStays (a .params) (a .t)) (a .n) (a .t1) _ (c .cut .ensures) (omega arith)
+loop-holds c = keep-starts (c .cut .ensures) (omega arith)
 
 mul-m : tie.Need-mul-m Inv-loop μ-loop
 mul-m c = search needs
@@ -49,20 +46,15 @@ loop-less c = search needs
 
 loop-again : tie.Need-loop-again Inv-loop μ-loop
 loop-again c =
-    let a = c .before .before .before .before .before .before .args in
     let l = c .before .before .before .before .loop in
-    let p = potentialStays (a .params) (a .t) in
+    let h = c .before .before .before .loop-test .taken in
     let v = c .before .potential-stays .ensures in
-    ⊎-elim
-    (λ w. rw (w .1, w .2) (keep-one p (a .n) (a .t1) _ (l .pool) (l .i) (l .count) (l .inv) (c .before .before .before .loop-test .taken) _ (sym v ∙ w .0 .taken)))
-    (λ w. rw (w .1, w .2) (drop-one p (a .n) (a .t1) _ (l .pool) (l .i) (l .count) (l .inv) (c .before .before .before .loop-test .taken) _ (sym v ∙ w .0 .left)))
-    (c .if1 .came)
+    ⊎-elim (λ w. keep-takes (l .inv) _ _ _ _ h v (w .0 .taken) (w .1) (w .2)) (λ w. keep-drops (l .inv) _ _ _ _ h v (w .0 .left) (w .1) (w .2)) (c .if1 .came)
 
 returns : tie.Need-returns Inv-loop μ-loop
 returns c =
-    let a = c .before .before .before .args in
     let l = c .before .loop in
-    keep-end (potentialStays (a .params) (a .t)) (a .n) (a .t1) _ (l .pool) (l .i) (l .count) (l .inv) (c .loop-test .left)
+    (keep-ends (l .inv) (c .loop-test .left), kept-length (l .inv))
 
 pub prune-potential-spec : {M : Type 1} → statement M
 prune-potential-spec =

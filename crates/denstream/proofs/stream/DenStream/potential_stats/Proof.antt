@@ -1,12 +1,10 @@
 -- `DenStream::potential_stats` meets its contract. Assumes nothing.
+use lib.ListN.{take}
 use borrow.Author.Needs.{needs}
-use Rattle.denstream.proofs.ReadOuts.{statistics-seen}
+use Rattle.denstream.proofs.ReadOuts.{told}
 use Rattle.denstream.specs.View.{view}
 use Rattle.denstream.proofs.stream.DenStream.potential_stats.Statement.{statement}
 use Rattle.denstream.proofs.stream.DenStream.potential_stats.Tie as tie
-
-cut-requires : tie.Need-cut-requires
-cut-requires c κs = search needs
 
 potential-held-requires : tie.Need-potential-held-requires
 potential-held-requires c κs = search needs
@@ -32,15 +30,17 @@ same-length-3 c = search needs
 returns : tie.Need-returns
 unfolding view
 returns c =
-    let e = c .before .before .before .before .before .before .before .before .before .before .before .before .before .before .before .before .before .before .before in
-    let s = e .args .self in
-    statistics-seen (s .potential) _ _ _ _ (c .before .before .before .before .before .before .before .before .before .before .before .before .before .before .cut .ensures) (c .before .before .before .before .before .before .before .before .before .before .before .before .before .potential-held .ensures) (s .params .lambda) (s .t) _ _ (e .args .centres .now) (e .args .weights .now) (e .args .radii .now) _ (c .before .before .before .before .before .before .before .before .before .before .before .features .ensures) (c .before .before .before .before .before .before .before .before .before .before .faded-weights .ensures) (c .before .before .before .before .before .before .statistics .ensures)
+    let a = c .before .before .before .before .before .before .before .before .before .before .before .before .before .before .before .before .before .before .args in
+    let s = a .self in
+    let n = c .before .before .before .before .before .before .before .before .before .before .before .before .before .potential-held in
+    let fs = c .before .before .before .before .before .before .before .before .before .before .before .features in
+    let ws = c .before .before .before .before .before .before .before .before .before .before .faded-weights in
+    told (s .potential) (s .params .dim) (n .result) _ (n .ensures) (fs .result) (fs .ensures) (s .params .lambda) (s .t) (take (n .result) (ws .result)) (a .centres .now) (a .weights .now) (a .radii .now) _ (ws .ensures) (c .before .before .before .before .before .before .statistics .ensures)
 
 pub potential-stats-spec : {M : Type 1} → statement M
 potential-stats-spec =
     tie.close
     (tie.spec
-    cut-requires
     potential-held-requires
     features-requires
     faded-weights-requires

@@ -1,0 +1,16 @@
+use lib.ListN.{take}
+use Rattle.neighbours.proofs.Turns.{newborn-is}
+use borrow.Author.Needs.{needs}
+use Rattle.neighbours.proofs.absorption.newborn.Statement.{statement}
+use Rattle.neighbours.proofs.absorption.newborn.Tie as tie
+
+birth-requires : tie.Need-birth-requires
+birth-requires c κs = search needs
+
+returns : tie.Need-returns
+returns c =
+    let a = c .before .args in
+    newborn-is (take (a .dim) (a .x)) (a .t) (a .id) _ (c .birth .ensures)
+
+pub newborn-spec : {M : Type 1} → statement M
+newborn-spec = tie.close (tie.spec birth-requires returns)

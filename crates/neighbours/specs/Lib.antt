@@ -1,0 +1,5 @@
+pub mod Near
+pub mod Placing
+pub mod Absorbing
+pub mod Scanned
+pub mod Views

@@ -1,0 +1,43 @@
+-- `predict` meets its contract. Assumes nothing.
+use native.Mathlib.Omega.{arith}
+use borrow.Author.Needs.{needs, sfits-of}
+use mathlib.Core.Path.{_∙_}
+use mir.Syntax.{w64}
+use mir.Facts.{toZ-ofZ}
+use lib.ListN.{take}
+use Rattle.model.specs.InsertLaws.{point-is}
+use Rattle.readout.proofs.Predicting.{predict-shape, predict-label}
+use Rattle.readout.proofs.prediction.predict.Statement.{statement}
+use Rattle.readout.proofs.prediction.predict.Tie as tie
+
+cut-requires : tie.Need-cut-requires
+cut-requires c κs = search needs
+
+returns : tie.Need-returns
+returns c =
+    let a = c .before .before .before .args in
+    let w = c .before .cut in
+    predict-shape (a .dim) (a .n) (w .result) (w .ensures) (a .radius2) (a .features) (take (a .label-count) (a .labels)) (a .x .now) (c .if1 .taken)
+
+padded-requires : tie.Need-padded-requires
+padded-requires c κs = search needs
+
+distances-requires : tie.Need-distances-requires
+distances-requires c κs = search needs
+
+label-for-requires : tie.Need-label-for-requires
+label-for-requires c κs = search needs
+
+returns-2 : tie.Need-returns-2
+returns-2 c =
+    let a = c .before .before .before .before .before .before .args in
+    let w = c .before .before .before .before .cut in
+    let h = c .before .before .before .if1 .left in
+    let p = c .before .before .padded in
+    predict-label (a .dim) (a .n) (w .result) (w .ensures) (a .radius2) (a .features) (take (a .label-count) (a .labels)) (a .x .now) (take (w .result) (p .result)) _ _ h
+    (point-is (a .x .now) (p .result) (w .result) h (omega (arith, w .ensures)) (p .ensures)) (c .before .distances .ensures) (toZ-ofZ (sfits-of {w = w64} (c .«label-for» .ok)) ∙ c .«label-for» .ensures)
+
+pub predict-spec : {M : Type 1} → statement M
+predict-spec =
+    tie.close
+    (tie.spec cut-requires returns padded-requires distances-requires label-for-requires returns-2)
