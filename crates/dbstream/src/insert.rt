@@ -1,7 +1,6 @@
 // A point is taken.
 use crate::DbStream;
 use feature::MAX_DIM;
-use gains::Factor;
 use gains::Pass;
 use model::Clock;
 use model::Insertion;
@@ -45,15 +44,13 @@ impl DbStream {
         self.count = p.count;
         self.next_id = p.next_id;
         let ids = scan.ids;
-        let mut f = Factor::new(lambda, t, t);
-        let mut pass = Pass::first(ids, self.link_count, t);
+        let mut pass = Pass::first(ids, self.link_count, lambda, t);
         while pass.walk.j < scan.count {
             let q = pass.place();
             let l = self.links[q];
-            let step = pass.step(l, f, ids, scan.count, lambda, t);
+            let step = pass.step(l, ids, scan.count, lambda, t);
             let new = step.link;
             self.links[q] = new;
-            f = step.factor;
             pass = step.pass;
         }
         self.link_count = pass.count;

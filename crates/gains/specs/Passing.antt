@@ -26,7 +26,8 @@ use Rattle.gains.specs.declared.pass.Turn.{Turn}
 use Rattle.gains.specs.declared.pass.Step.{Step}
 use Rattle.gains.specs.Walk.{nextOf}
 use Rattle.gains.specs.Passed.{Absent}
-use Rattle.gains.specs.Pass.{passFrom, placeOf, carriedOf, passedOf, insertedOf, lookedOf, turnOf, nextPass, stepOf}
+use Rattle.gains.specs.Factor.{factorOf, Right}
+use Rattle.gains.specs.Pass.{passFrom, placeOf, carriedOf, passedOf, insertedOf, fadedBy, gainedOf, lookedOf, turnOf, nextPass, stepOf}
 use Rattle.gains.specs.Walking.{Walking, pairsLeft, start, step-before, step-same, step-after, step-full, less-next, absent-at, absent-end, end}
 
 -- a link is on its way up: put in at its place, it makes the list from which the walk goes on
@@ -40,21 +41,21 @@ pub record Carrying (lambda t : Float) (ids : List MicroId) (k : ℕ) (goal ls :
       (ls′ : List Link) (v : Walk) → v ≡ nextOf ids k t (s .walk) → length ls′ ≡ linksMost →
       take (s .count + 1) ls′ ≡ take (s .at) ls ++ s .carry ∷ rest (s .count) (s .at) ls → Walking lambda t ids k goal ls′ (s .count + 1) v
 
--- ls is the array of links; goal is the list that all gains make
+-- the factor kept is right, and the walk goes on or a link is carried; ls is the array of links; goal is the list that all gains make
 abbrev pub Passing : (lambda t : Float) (ids : List MicroId) (k : ℕ) (goal ls : List Link) → Pass → Type 0
 Passing lambda t ids k goal ls s =
-    ((s .carries ≡ false) × Walking lambda t ids k goal ls (s .count) (s .walk)) ⊎ ((s .carries ≡ true) × Carrying lambda t ids k goal ls s)
+    Right lambda t (s .factor) × (((s .carries ≡ false) × Walking lambda t ids k goal ls (s .count) (s .walk)) ⊎ ((s .carries ≡ true) × Carrying lambda t ids k goal ls s))
 
 -- how far the end is: a pair passes each link and carries each at most once
 abbrev pub toGo : (ids : List MicroId) (k : ℕ) → Pass → ℕ
 toGo ids k s = pairsLeft ids k (s .walk) * (linksMost + linksMost + 2) + cond (s .carries) (linksMost - s .at) (linksMost + 1 + (linksMost - s .walk .p))
 
 pub starts :
-    (lambda t : Float) (ids : List MicroId) (many k : ℕ) (ls : List Link) (count : ℕ) (s : Pass) → length ids ≡ microsMost → k ≡ min many microsMost → length ls ≡ linksMost → s ≡ passFrom ids count t →
+    (lambda t : Float) (ids : List MicroId) (many k : ℕ) (ls : List Link) (count : ℕ) (s : Pass) → length ids ≡ microsMost → k ≡ min many microsMost → length ls ≡ linksMost → s ≡ passFrom ids count lambda t →
     Passing lambda t ids k (foldl (gainOf lambda t) (take count ls) (pairsOf (take many ids))) ls s
 starts lambda t ids many k ls count s all among size is =
     subst (Passing lambda t ids k (foldl (gainOf lambda t) (take count ls) (pairsOf (take many ids))) ls) (sym is)
-    (inl (refl, start lambda t ids many k ls count (min count linksMost) _ all among size refl refl))
+    (refl, inl (refl, start lambda t ids many k ls count (min count linksMost) _ all among size refl refl))
 
 never : {A : Type 0} → false ≡ true → A
 never e = absurd (true≢false (sym e))
@@ -68,37 +69,40 @@ module _ (lambda t : Float) (ids : List MicroId) (k : ℕ) (goal ls : List Link)
   abbrev Goes : (q : ℕ) → Turn → Type 0
   Goes q r = (r .gained ≡ false → Kept (set ls q (r .link)) (r .pass)) × (r .gained ≡ true → Kept (set ls q (r .link)) (nextPass ids k t (r .pass)))
 
-  module _ (z : Link) (g : Factor) (q : ℕ) where
+  module _ (right : Right lambda t (s .factor)) (z : Link) (q : ℕ) where
     -- nothing is written: the link at the place stays
     stays : set ls q (getD ls q z) ≡ ls
     stays = set-getD ls q z
 
     module _ (off : s .carries ≡ false) (h : Walking lambda t ids k goal ls (s .count) (s .walk)) (live : s .walk .j < k) where
-      next-free : (ls′ : List Link) → Walking lambda t ids k goal ls′ (s .count) (nextOf ids k t (s .walk)) → Kept ls′ (nextPass ids k t s)
-      next-free ls′ w =
+      next-free : (ls′ : List Link) (f : Factor) → Right lambda t f → Walking lambda t ids k goal ls′ (s .count) (nextOf ids k t (s .walk)) → Kept ls′ (nextPass ids k t (fadedBy s f))
+      next-free ls′ f right′ w =
           let fewer : pairsLeft ids k (nextOf ids k t (s .walk)) < pairsLeft ids k (s .walk) = less-next h live _ refl in
-          (inl (off, w), rw off (omega (arith, fewer)))
+          ((right′, inl (off, w)), rw off (omega (arith, fewer)))
 
       abbrev waiting : Pass
-      waiting = record { walk = s .walk; count = s .count; carries = true; carry = gains lambda t (s .walk .key); at = s .walk .p }
+      waiting = record { walk = s .walk; count = s .count; carries = true; carry = gains lambda t (s .walk .key); at = s .walk .p; factor = s .factor }
 
       -- b is whether there is room: its cases are cheap, where a rewrite would spell the goal out
       inserted :
           (b : Bool) → ltb (s .count) linksMost ≡ b → Absent (s .walk .key) (rest (s .count) (s .walk .p) ls) →
-          Goes q (cond b (record { link = getD ls q z; gained = false; pass = waiting; factor = g }) (record { link = getD ls q z; gained = true; pass = s; factor = g }))
+          Goes q (cond b (record { link = getD ls q z; gained = false; pass = waiting }) (record { link = getD ls q z; gained = true; pass = s }))
       inserted true e none =
           let room : s .count < linksMost = ltb-true (s .count) linksMost e in (
             (λ d. subst (λ (l : List Link). Kept l waiting) (sym stays) (
-              inr (
-                refl,
-                record {
-                  size = h .size;
-                  free = room;
-                  place = h .place;
-                  live = live;
-                  fewer = less-next h live;
-                  goes = λ ls′ v next size put. step-after h live ls′ v next none room size put;
-                },
+              (
+                right,
+                inr (
+                  refl,
+                  record {
+                    size = h .size;
+                    free = room;
+                    place = h .place;
+                    live = live;
+                    fewer = less-next h live;
+                    goes = λ ls′ v next size put. step-after h live ls′ v next none room size put;
+                  },
+                ),
               ),
               rw off (omega (arith, h .place, h .count)),
             )),
@@ -106,18 +110,18 @@ module _ (lambda t : Float) (ids : List MicroId) (k : ℕ) (goal ls : List Link)
           )
       inserted false e none = (
         (λ d. never (sym d)),
-        (λ d. subst (λ (l : List Link). Kept l (nextPass ids k t s)) (sym stays) (next-free ls (step-full h live _ refl none (ltb-false (s .count) linksMost e)))),
+        (λ d. subst (λ (l : List Link). Kept l (nextPass ids k t s)) (sym stays) (next-free ls (s .factor) right (step-full h live _ refl none (ltb-false (s .count) linksMost e)))),
       )
 
       module _ (here : s .walk .p < s .count → q ≡ s .walk .p) where
         met :
             (a b c : Bool) → ltb (s .walk .p) (s .count) ≡ a → before (getD ls q z) (s .walk .key) ≡ b → sameEnds (getD ls q z) (s .walk .key) ≡ c →
-            Goes q (cond a (cond b (passedOf s (getD ls q z) g) (cond c (record { link = gains lambda t (getD ls q z); gained = true; pass = s; factor = g }) (insertedOf lambda t s (getD ls q z) g))) (insertedOf lambda t s (getD ls q z) g))
+            Goes q (cond a (cond b (passedOf s (getD ls q z)) (cond c (gainedOf lambda t s (getD ls q z)) (insertedOf lambda t s (getD ls q z)))) (insertedOf lambda t s (getD ls q z)))
         met true true c ea eb ec =
             let p : s .walk .p < s .count = ltb-true _ _ ea in
             let e : q ≡ s .walk .p = here p in (
-              (λ d. subst (λ (l : List Link). Kept l (passedOf s (getD ls q z) g .pass)) (sym stays) (
-                inl (off, step-before h z p (subst (λ (m : ℕ). before (getD ls m z) (s .walk .key) ≡ true) e eb)),
+              (λ d. subst (λ (l : List Link). Kept l (passedOf s (getD ls q z) .pass)) (sym stays) (
+                (right, inl (off, step-before h z p (subst (λ (m : ℕ). before (getD ls m z) (s .walk .key) ≡ true) e eb))),
                 rw off (omega (arith, p, h .count)),
               )),
               (λ d. never d),
@@ -126,8 +130,8 @@ module _ (lambda t : Float) (ids : List MicroId) (k : ℕ) (goal ls : List Link)
             let p : s .walk .p < s .count = ltb-true _ _ ea in
             let e : q ≡ s .walk .p = here p in (
               (λ d. never (sym d)),
-              (λ d. subst (λ (m : ℕ). Kept (set ls m (gains lambda t (getD ls m z))) (nextPass ids k t s)) (sym e)
-                  (next-free _ (step-same h live z _ refl p (subst (λ (m : ℕ). before (getD ls m z) (s .walk .key) ≡ false) e eb) (subst (λ (m : ℕ). sameEnds (getD ls m z) (s .walk .key) ≡ true) e ec)))),
+              (λ d. subst (λ (m : ℕ). Kept (set ls m (gains lambda t (getD ls m z))) (nextPass ids k t (fadedBy s (factorOf lambda t (getD ls m z .last))))) (sym e)
+                  (next-free _ _ refl (step-same h live z _ refl p (subst (λ (m : ℕ). before (getD ls m z) (s .walk .key) ≡ false) e eb) (subst (λ (m : ℕ). sameEnds (getD ls m z) (s .walk .key) ≡ true) e ec)))),
             )
         met true false false ea eb ec =
             let p : s .walk .p < s .count = ltb-true _ _ ea in
@@ -141,24 +145,27 @@ module _ (lambda t : Float) (ids : List MicroId) (k : ℕ) (goal ls : List Link)
       abbrev climbed : (n m : ℕ) (b : Bool) → Turn
       climbed n m b =
           cond b
-          (record { link = s .carry; gained = false; pass = record { walk = s .walk; count = s .count; carries = s .carries; carry = getD ls m z; at = s .at + 1 }; factor = g })
-          (record { link = s .carry; gained = true; pass = record { walk = s .walk; count = n + 1; carries = false; carry = s .carry; at = s .at }; factor = g })
+          (record { link = s .carry; gained = false; pass = record { walk = s .walk; count = s .count; carries = s .carries; carry = getD ls m z; at = s .at + 1; factor = s .factor } })
+          (record { link = s .carry; gained = true; pass = record { walk = s .walk; count = n + 1; carries = false; carry = s .carry; at = s .at; factor = s .factor } })
 
       climbs : (b : Bool) → ltb (s .at) (s .count) ≡ b → Goes (s .at) (climbed (s .count) (s .at) b)
       climbs true e =
           let p : s .at < s .count = ltb-true (s .at) (s .count) e in
           let fits : s .count ≤ length ls = omega (arith, h .size, h .free) in (
             (λ d. (
-              inr (
-                on,
-                record {
-                  size = length-set ls (s .at) (s .carry) ∙ h .size;
-                  free = h .free;
-                  place = omega (arith, p);
-                  live = h .live;
-                  fewer = h .fewer;
-                  goes = λ ls′ v next size put. h .goes ls′ v next size (put ∙ carry-step (s .count) (s .at) ls z (s .carry) (getD ls (s .at) z) p fits refl);
-                },
+              (
+                right,
+                inr (
+                  on,
+                  record {
+                    size = length-set ls (s .at) (s .carry) ∙ h .size;
+                    free = h .free;
+                    place = omega (arith, p);
+                    live = h .live;
+                    fewer = h .fewer;
+                    goes = λ ls′ v next size put. h .goes ls′ v next size (put ∙ carry-step (s .count) (s .at) ls z (s .carry) (getD ls (s .at) z) p fits refl);
+                  },
+                ),
               ),
               rw on (omega (arith, p, h .free)),
             )),
@@ -170,52 +177,55 @@ module _ (lambda t : Float) (ids : List MicroId) (k : ℕ) (goal ls : List Link)
           let fewer : pairsLeft ids k (nextOf ids k t (s .walk)) < pairsLeft ids k (s .walk) = h .fewer _ refl in (
             (λ d. never (sym d)),
             (λ d. (
-              inl (
-                refl,
-                h .goes (set ls (s .at) (s .carry)) _ refl (length-set ls (s .at) (s .carry) ∙ h .size)
-                    (subst (λ (m : ℕ). take (s .count + 1) (set ls m (s .carry)) ≡ take (s .at) ls ++ s .carry ∷ rest (s .count) (s .at) ls) (sym p) (carry-end (s .count) (s .at) ls (s .carry) p fits)),
+              (
+                right,
+                inl (
+                  refl,
+                  h .goes (set ls (s .at) (s .carry)) _ refl (length-set ls (s .at) (s .carry) ∙ h .size)
+                      (subst (λ (m : ℕ). take (s .count + 1) (set ls m (s .carry)) ≡ take (s .at) ls ++ s .carry ∷ rest (s .count) (s .at) ls) (sym p) (carry-end (s .count) (s .at) ls (s .carry) p fits)),
+                ),
               ),
               rw on (omega (arith, fewer)),
             )),
           )
 
-      carried : Goes q (carriedOf s (getD ls q z) g)
+      carried : Goes q (carriedOf s (getD ls q z))
       carried =
           let whole : min (s .count) linksMost ≡ s .count = omega (arith, h .free) in
           subst (λ (m : ℕ). Goes m (climbed (min (s .count) linksMost) m (ltb (s .at) (min (s .count) linksMost)))) (sym here)
           (subst (λ (n : ℕ). Goes (s .at) (climbed n (s .at) (ltb (s .at) n))) (sym whole) (climbs (ltb (s .at) (s .count)) refl))
 
   turned :
-      Passing lambda t ids k goal ls s → s .walk .j < k → (z : Link) (g : Factor) (q : ℕ) → q ≡ placeOf s → (r : Turn) → r ≡ turnOf lambda t s (getD ls q z) g → Goes q r
-  turned (inl p) live z g q eq r er =
-      subst (Goes q) (sym (er ∙ ap (λ (c : Bool). cond c (carriedOf s (getD ls q z) g) (lookedOf lambda t s (getD ls q z) g)) (p .0)))
-      (met z g q (p .0) (p .1) live
+      Passing lambda t ids k goal ls s → s .walk .j < k → (z : Link) (q : ℕ) → q ≡ placeOf s → (r : Turn) → r ≡ turnOf lambda t s (getD ls q z) → Goes q r
+  turned (right, inl p) live z q eq r er =
+      subst (Goes q) (sym (er ∙ ap (λ (c : Bool). cond c (carriedOf s (getD ls q z)) (lookedOf lambda t s (getD ls q z))) (p .0)))
+      (met right z q (p .0) (p .1) live
       (λ h. eq ∙ ap (λ (c : Bool). min (cond c (s .at) (s .walk .p)) (linksMost - 1)) (p .0) ∙ small (s .walk .p) (omega (arith, h, p .1 .count)))
       (ltb (s .walk .p) (s .count)) (before (getD ls q z) (s .walk .key)) (sameEnds (getD ls q z) (s .walk .key)) refl refl refl)
     where
       small : (m : ℕ) → m < linksMost → min m (linksMost - 1) ≡ m
       small m h = omega arith
-  turned (inr p) live z g q eq r er =
-      subst (Goes q) (sym (er ∙ ap (λ (c : Bool). cond c (carriedOf s (getD ls q z) g) (lookedOf lambda t s (getD ls q z) g)) (p .0)))
-      (carried z g q (p .0) (p .1) (eq ∙ ap (λ (c : Bool). min (cond c (s .at) (s .walk .p)) (linksMost - 1)) (p .0) ∙ small (s .at) (omega (arith, p .1 .place, p .1 .free))))
+  turned (right, inr p) live z q eq r er =
+      subst (Goes q) (sym (er ∙ ap (λ (c : Bool). cond c (carriedOf s (getD ls q z)) (lookedOf lambda t s (getD ls q z))) (p .0)))
+      (carried right z q (p .0) (p .1) (eq ∙ ap (λ (c : Bool). min (cond c (s .at) (s .walk .p)) (linksMost - 1)) (p .0) ∙ small (s .at) (omega (arith, p .1 .place, p .1 .free))))
     where
       small : (m : ℕ) → m < linksMost → min m (linksMost - 1) ≡ m
       small m h = omega arith
 
   pub stepped :
-      Passing lambda t ids k goal ls s → s .walk .j < k → (z : Link) (g : Factor) (q : ℕ) → q ≡ placeOf s → (r : Step) → r ≡ stepOf lambda t ids k s (getD ls q z) g → Kept (set ls q (r .link)) (r .pass)
-  stepped p live z g q eq r er = subst (λ (v : Step). Kept (set ls q (v .link)) (v .pass)) (sym er) (go (u .gained) refl)
+      Passing lambda t ids k goal ls s → s .walk .j < k → (z : Link) (q : ℕ) → q ≡ placeOf s → (r : Step) → (Right lambda t (s .factor) → r ≡ stepOf lambda t ids k s (getD ls q z)) → Kept (set ls q (r .link)) (r .pass)
+  stepped p live z q eq r er = subst (λ (v : Step). Kept (set ls q (v .link)) (v .pass)) (sym (er (p .0))) (go (u .gained) refl)
     where
       u : Turn
-      u = turnOf lambda t s (getD ls q z) g
+      u = turnOf lambda t s (getD ls q z)
 
       both : Goes q u
-      both = turned p live z g q eq u refl
+      both = turned p live z q eq u refl
 
       go : (b : Bool) → u .gained ≡ b → Kept (set ls q (u .link)) (cond b (nextPass ids k t (u .pass)) (u .pass))
       go true e = both .1 e
       go false e = both .0 e
 
   pub ends : Passing lambda t ids k goal ls s → k ≤ s .walk .j → take (s .count) ls ≡ goal
-  ends (inl p) h = end (p .1) h
-  ends (inr p) h = absurd (omega (arith, p .1 .live, h))
+  ends (right, inl p) h = end (p .1) h
+  ends (right, inr p) h = absurd (omega (arith, p .1 .live, h))

@@ -1,8 +1,7 @@
 // The fade of the last link is kept for the next: most links of an insert fade from the same clock.
 ghost use mathlib.Core.Path.{_≡_};
 ghost use mathlib.Core.Bool.{true};
-ghost use mathlib.Core.Logic.{_⊎_};
-ghost use Rattle.gains.specs.Factor.{factorOf};
+ghost use Rattle.gains.specs.Factor.{factorOf, Right};
 
 // How much is left at the clock of the insert of what was there at last.
 pub struct Factor {
@@ -22,7 +21,7 @@ impl Factor {
 
     // The factor from last: this one, where it is from there too.
     pub fn since(self, lambda: f64, t: f64, last: f64) -> Factor
-        ensures { λ r. ⌜ (r ≡ factorOf lambda t last) ⊎ ((r ≡ self) × (self .last ≡ last)) ⌝ }
+        ensures { λ r. ⌜ (Right lambda t self → r ≡ factorOf lambda t last) ⌝ }
     {
         if is_same(self.last, last) {
             return self;

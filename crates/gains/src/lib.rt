@@ -3,6 +3,5 @@ mod factor;
 mod pass;
 mod walk;
 
-pub use factor::Factor;
 pub use pass::Pass;
 pub use pass::Step;

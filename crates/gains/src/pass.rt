@@ -12,13 +12,14 @@ ghost use Rattle.gains.specs.Factor.{Right, gainsBy};
 ghost use Rattle.gains.specs.Pass.{passFrom, placeOf, carriedOf, insertedOf, turnOf, nextPass, stepOf};
 
 // How far the pairs and the links are walked, and how many links there are; `carries` says that
-// `carry` is on its way up the list, and `at` where to.
+// `carry` is on its way up the list, and `at` where to; `factor` is kept from the last gain for the next.
 pub struct Pass {
     pub walk: Walk,
     pub count: usize,
     pub carries: bool,
     pub carry: Link,
     pub at: usize,
+    pub factor: Factor,
 }
 
 // A turn: the link that now stands at the place, and whether the pair has had its gain.
@@ -26,14 +27,12 @@ struct Turn {
     link: Link,
     gained: bool,
     pass: Pass,
-    factor: Factor,
 }
 
 // A step: the link that now stands at the place, and how the pass goes on.
 pub struct Step {
     pub link: Link,
     pub pass: Pass,
-    pub factor: Factor,
 }
 
 // l faded to t, with 1 more.
@@ -52,8 +51,8 @@ fn gained(l: Link, fade: f64, t: f64) -> Link
 
 impl Pass {
     // At the first pair and the first link.
-    pub fn first(ids: [MicroId; MICROS], count: usize, t: f64) -> Pass
-        ensures { λ r. ⌜ r ≡ passFrom ids count t ⌝ }
+    pub fn first(ids: [MicroId; MICROS], count: usize, lambda: f64, t: f64) -> Pass
+        ensures { λ r. ⌜ r ≡ passFrom ids count lambda t ⌝ }
     {
         let walk = Walk::first(ids, t);
         let carry = walk.key;
@@ -63,6 +62,7 @@ impl Pass {
             carries: false,
             carry,
             at: 0,
+            factor: Factor::new(lambda, t, t),
         }
     }
 
@@ -78,8 +78,8 @@ impl Pass {
     }
 
     // l gives its place to the link carried and is carried on; past the last link the list has grown.
-    fn carried(self, l: Link, factor: Factor) -> Turn
-        ensures { λ r. ⌜ r ≡ carriedOf self l factor ⌝ }
+    fn carried(self, l: Link) -> Turn
+        ensures { λ r. ⌜ r ≡ carriedOf self l ⌝ }
     {
         let link = self.carry;
         let count = lists::cut(self.count, LINKS);
@@ -94,7 +94,6 @@ impl Pass {
                 link,
                 gained: false,
                 pass,
-                factor,
             };
         }
         let pass = Pass {
@@ -106,13 +105,12 @@ impl Pass {
             link,
             gained: true,
             pass,
-            factor,
         }
     }
 
     // The key has no link: one that gained from 0 is carried to the place, if there is room.
-    fn inserted(self, l: Link, factor: Factor, lambda: f64, t: f64) -> Turn
-        ensures { λ r. ⌜ r ≡ insertedOf lambda t self l factor ⌝ }
+    fn inserted(self, l: Link, lambda: f64, t: f64) -> Turn
+        ensures { λ r. ⌜ r ≡ insertedOf lambda t self l ⌝ }
     {
         let w = self.walk;
         let key = w.key;
@@ -128,23 +126,21 @@ impl Pass {
                 link: l,
                 gained: false,
                 pass,
-                factor,
             };
         }
         Turn {
             link: l,
             gained: true,
             pass: self,
-            factor,
         }
     }
 
     // l is the link at the place: it is passed, or it gains, or the pair's link goes there.
-    fn turn(self, l: Link, factor: Factor, lambda: f64, t: f64) -> Turn
-        ensures { λ r. ⌜ (Right lambda t factor → Right lambda t (r .factor) × (r ≡ turnOf lambda t self l (r .factor))) ⌝ }
+    fn turn(self, l: Link, lambda: f64, t: f64) -> Turn
+        ensures { λ r. ⌜ (Right lambda t (self .factor) → r ≡ turnOf lambda t self l) ⌝ }
     {
         if self.carries {
-            return self.carried(l, factor);
+            return self.carried(l);
         }
         let mut walk = self.walk;
         let key = walk.key;
@@ -156,20 +152,21 @@ impl Pass {
                     link: l,
                     gained: false,
                     pass,
-                    factor,
                 };
             }
             if same_ends(l, key) {
-                let since = factor.since(lambda, t, l.last);
+                let kept = self.factor;
+                let factor = kept.since(lambda, t, l.last);
+                let link = gained(l, factor.fade, t);
+                let pass = Pass { factor, ..self };
                 return Turn {
-                    link: gained(l, since.fade, t),
+                    link,
                     gained: true,
-                    pass: self,
-                    factor: since,
+                    pass,
                 };
             }
         }
-        self.inserted(l, factor, lambda, t)
+        self.inserted(l, lambda, t)
     }
 
     // At the next pair.
@@ -182,24 +179,15 @@ impl Pass {
     }
 
     // A turn, and on to the next pair where this one has had its gain.
-    pub fn step(
-        self,
-        l: Link,
-        factor: Factor,
-        ids: [MicroId; MICROS],
-        k: usize,
-        lambda: f64,
-        t: f64,
-    ) -> Step
-        ensures { λ r. ⌜ (Right lambda t factor → Right lambda t (r .factor) × (r ≡ stepOf lambda t ids k self l (r .factor))) ⌝ }
+    pub fn step(self, l: Link, ids: [MicroId; MICROS], k: usize, lambda: f64, t: f64) -> Step
+        ensures { λ r. ⌜ (Right lambda t (self .factor) → r ≡ stepOf lambda t ids k self l) ⌝ }
     {
-        let turn = self.turn(l, factor, lambda, t);
+        let turn = self.turn(l, lambda, t);
         let link = turn.link;
         let mut pass = turn.pass;
-        let factor = turn.factor;
         if turn.gained {
             pass = pass.next(ids, k, t);
         }
-        Step { link, pass, factor }
+        Step { link, pass }
     }
 }

@@ -1,7 +1,7 @@
 -- `since` meets its contract. Assumes nothing.
-use mathlib.Core.Path.{refl}
-use mathlib.Core.Logic.{inl, inr}
+use mathlib.Core.Path.{ap, _∙_}
 use borrow.Author.Needs.{needs}
+use Rattle.gains.specs.Factor.{factorOf}
 use Rattle.gains.proofs.factor.Factor.since.Statement.{statement}
 use Rattle.gains.proofs.factor.Factor.since.Tie as tie
 
@@ -9,13 +9,15 @@ is-same-requires : tie.Need-is-same-requires
 is-same-requires c κs = search needs
 
 returns : tie.Need-returns
-returns c = inr (refl, c .before .«is-same» .ensures (c .if1 .taken))
+returns c =
+    let a = c .before .before .args in
+    λ right. right ∙ ap (factorOf (a .lambda) (a .t)) (c .before .«is-same» .ensures (c .if1 .taken))
 
 new-requires : tie.Need-new-requires
 new-requires c κs = search needs
 
 returns-2 : tie.Need-returns-2
-returns-2 c = inl (c .new .ensures)
+returns-2 c = λ right. c .new .ensures
 
 pub since-spec : {M : Type 1} → statement M
 since-spec = tie.close (tie.spec is-same-requires returns new-requires returns-2)

@@ -8,8 +8,11 @@ first-requires c κs = search needs
 cut-requires : tie.Need-cut-requires
 cut-requires c κs = search needs
 
+new-requires : tie.Need-new-requires
+new-requires c κs = search needs
+
 returns : tie.Need-returns
-returns c = rw (c .before .before .first .ensures, c .cut .ensures)
+returns c = rw (c .before .before .before .first .ensures, c .before .cut .ensures, c .new .ensures)
 
 pub first-spec : {M : Type 1} → statement M
-first-spec = tie.close (tie.spec first-requires cut-requires returns)
+first-spec = tie.close (tie.spec first-requires cut-requires new-requires returns)

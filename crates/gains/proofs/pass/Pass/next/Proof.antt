@@ -6,7 +6,7 @@ next-requires : tie.Need-next-requires
 next-requires c κs = search needs
 
 returns : tie.Need-returns
-returns c = rw (c .before .next .ensures)
+returns c = rw (c .before .before .next .ensures)
 
 pub next-spec : {M : Type 1} → statement M
 next-spec = tie.close (tie.spec next-requires returns)

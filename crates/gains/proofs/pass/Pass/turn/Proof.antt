@@ -1,7 +1,6 @@
 use mathlib.Core.Path.{sym, _∙_}
 use mathlib.Core.Logic.{inl, inr, ⊎-elim}
 use Rattle.gains.proofs.Passes.{carried-turn, passed-turn, gained-turn, inserted-turn}
-use Rattle.gains.specs.Factor.{since-is, since-right, gain-by}
 use borrow.Author.Needs.{needs}
 use Rattle.gains.proofs.pass.Pass.turn.Statement.{statement}
 use Rattle.gains.proofs.pass.Pass.turn.Tie as tie
@@ -12,7 +11,7 @@ carried-requires c κs = search needs
 returns : tie.Need-returns
 returns c =
     let a = c .before .before .args in
-    carried-turn (a .lambda) (a .t) (a .self) (a .l) (a .factor) (c .carried .result) (c .before .if1 .taken) (c .carried .ensures)
+    λ right. carried-turn (a .lambda) (a .t) (a .self) (a .l) (c .carried .result) (c .before .if1 .taken) (c .carried .ensures)
 
 is-before-requires : tie.Need-is-before-requires
 is-before-requires c κs = search needs
@@ -22,8 +21,8 @@ add-walk c = search needs
 
 returns-2 : tie.Need-returns-2
 returns-2 c =
-    let a = c .before .before .before .before .before .before .before .before .before .before .args in
-    λ right. (right, passed-turn (a .lambda) (a .t) (a .self) (a .l) (a .factor) (c .before .before .before .before .before .before .before .before .before .if1 .left) (c .before .before .before .before .if2 .taken) (sym (c .before .before .before .«is-before» .ensures) ∙ c .before .before .if3 .taken))
+    let a = c .before .before .before .before .before .before .before .before .before .before .before .args in
+    λ right. passed-turn (a .lambda) (a .t) (a .self) (a .l) (c .before .before .before .before .before .before .before .before .before .before .if1 .left) (c .before .before .before .before .before .if2 .taken) (sym (c .before .before .before .before .«is-before» .ensures) ∙ c .before .before .before .if3 .taken)
 
 same-ends-requires : tie.Need-same-ends-requires
 same-ends-requires c κs = search needs
@@ -36,8 +35,8 @@ gained-requires c κs = search needs
 
 returns-3 : tie.Need-returns-3
 returns-3 c =
-    let a = c .before .before .before .before .before .before .before .before .before .before .before .before .args in
-    λ right. (since-right (a .lambda) (a .t) (a .factor) _ (a .l .last) right (c .before .since .ensures), gained-turn (a .lambda) (a .t) (a .self) (a .l) (c .before .since .result) (c .before .before .before .before .before .before .before .before .before .before .before .if1 .left) (c .gained .result) (c .before .before .before .before .before .before .if2 .taken) (sym (c .before .before .before .before .before .«is-before» .ensures) ∙ c .before .before .before .before .if3 .left) (sym (c .before .before .before .«same-ends» .ensures) ∙ c .before .before .if4 .taken) (c .gained .ensures ∙ gain-by (a .lambda) (a .t) (c .before .since .result .fade) (a .l) (since-is (a .lambda) (a .t) (a .factor) _ (a .l .last) right (c .before .since .ensures))))
+    let a = c .before .before .before .before .before .before .before .before .before .before .before .before .before .before .before .args in
+    λ right. gained-turn (a .lambda) (a .t) (a .self) (a .l) (c .before .before .before .before .before .before .before .before .before .before .before .before .before .before .if1 .left) (c .before .before .before .since .result) (c .before .before .gained .result) (c .before .before .before .before .before .before .before .before .before .if2 .taken) (sym (c .before .before .before .before .before .before .before .before .«is-before» .ensures) ∙ c .before .before .before .before .before .before .before .if3 .left) (sym (c .before .before .before .before .before .before .«same-ends» .ensures) ∙ c .before .before .before .before .before .if4 .taken) (c .before .before .before .since .ensures right) (c .before .before .gained .ensures)
 
 inserted-requires : tie.Need-inserted-requires
 inserted-requires c κs = search needs
@@ -45,7 +44,7 @@ inserted-requires c κs = search needs
 returns-4 : tie.Need-returns-4
 returns-4 c =
     let a = c .before .before .before .before .before .before .before .args in
-    inserted-turn (a .lambda) (a .t) (a .self) (a .l) (a .factor) (c .before .before .before .before .before .before .if1 .left) (c .inserted .result)
+    λ right. inserted-turn (a .lambda) (a .t) (a .self) (a .l) (c .before .before .before .before .before .before .if1 .left) (c .inserted .result)
     (⊎-elim (λ w. inr (w .0 .taken, sym (w .1 .ensures) ∙ w .2 .left, sym (w .3 .ensures) ∙ w .4 .left)) (λ w. inl (w .left)) (c .before .if2 .came)) (c .inserted .ensures)
 
 pub turn-spec : {M : Type 1} → statement M
