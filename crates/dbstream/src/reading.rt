@@ -56,23 +56,35 @@ impl DbStream {
     pub fn try_predict(self, x: &[f64]) -> Prediction
         ensures { λ r. ⌜ predictionSaid r ≡ predictOf (view self) (now (x .entry)) ⌝ }
     {
-        let n = self.count;
         let micros = self.micros;
-        let features = micro::features(micros, n);
         let labels = self.labels;
-        let r2 = self.r * self.r;
-        readout::predict(features, n, labels, self.label_count, r2, self.dim, x)
+        micro::predict(
+            micros,
+            self.count,
+            labels,
+            self.label_count,
+            self.r,
+            self.dim,
+            x,
+        )
     }
 
     // The means one after another, the faded weights and the radii, into lent slices.
     pub fn micro_stats(self, centres: &mut [f64], weights: &mut [f64], radii: &mut [f64]) -> Reading
         ensures { λ r. ⌜ statisticsTold r (now (centres .exit)) (now (weights .exit)) (now (radii .exit)) ≡ statisticsOf (view self) (now (centres .entry)) (now (weights .entry)) (now (radii .entry)) ⌝ }
     {
-        let n = self.count;
         let micros = self.micros;
-        let features = micro::features(micros, n);
-        let faded = micro::faded_weights(micros, n, self.lambda, self.t);
-        readout::statistics(features, faded, n, self.dim, centres, weights, radii)
+        let dim = self.dim;
+        micro::statistics(
+            micros,
+            self.count,
+            self.lambda,
+            self.t,
+            dim,
+            centres,
+            weights,
+            radii,
+        )
     }
 
     // The faded link of two live micro-clusters over the mean of their stored weights.

@@ -2,5 +2,4 @@ pub mod Opens
 pub mod Ticks
 pub mod Places
 pub mod Inserts
-pub mod ReadOuts
 pub mod Clusters

@@ -25,7 +25,7 @@ pub fn ids_of(micros: [DbMicro; MICROS], n: usize) -> [MicroId; MICROS]
     ids
 }
 
-pub fn features(micros: [DbMicro; MICROS], n: usize) -> [Spherical; MICROS]
+pub(crate) fn features(micros: [DbMicro; MICROS], n: usize) -> [Spherical; MICROS]
     ensures { λ r. ⌜ take n r ≡ map featureOf (take n micros) ⌝ }
 {
     let k = lists::cut(n, MICROS);

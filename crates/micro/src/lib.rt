@@ -1,12 +1,13 @@
 // DBSTREAM's micro-clusters: an array of 64 and a count. What is read out of them, and what a cleanup leaves.
 mod cleanup;
 mod identity;
+mod reading;
 mod weight;
 
 pub use cleanup::Micros;
 pub use cleanup::retained;
-pub use identity::features;
 pub use identity::ids_of;
-pub use weight::faded_weights;
+pub use reading::predict;
+pub use reading::statistics;
 pub use weight::mean_weight;
 pub use weight::strong_ones;

@@ -11,7 +11,12 @@ ghost use Rattle.model.specs.DbCluster.{storedWeight};
 ghost use Rattle.micro.specs.Held.{reaches};
 
 // Faded to t.
-pub fn faded_weights(micros: [DbMicro; MICROS], n: usize, lambda: f64, t: f64) -> [f64; MICROS]
+pub(crate) fn faded_weights(
+    micros: [DbMicro; MICROS],
+    n: usize,
+    lambda: f64,
+    t: f64,
+) -> [f64; MICROS]
     ensures { λ r. ⌜ take n r ≡ map (fadedWeight lambda t) (take n micros) ⌝ }
 {
     let k = lists::cut(n, MICROS);

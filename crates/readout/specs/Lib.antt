@@ -4,3 +4,4 @@ pub mod Told
 pub mod Seen
 pub mod NearestLaws
 pub mod LabelLaws
+pub mod SeenLaws

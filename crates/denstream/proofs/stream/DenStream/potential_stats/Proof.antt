@@ -1,7 +1,14 @@
 -- `DenStream::potential_stats` meets its contract. Assumes nothing.
+use Prim.Native.Nat.{ℕ, min}
+use mathlib.Core.Path.{refl, ap, _∙_}
+use mathlib.Core.List.{map}
 use lib.ListN.{take}
 use borrow.Author.Needs.{needs}
-use Rattle.denstream.proofs.ReadOuts.{told}
+use Rattle.feature.specs.Feature.{maxDim}
+use Rattle.model.specs.DenInsert.{fadedWeight}
+use Rattle.model.specs.ReadOut.{statisticsRead}
+use Rattle.readout.specs.SeenLaws.{told}
+use Rattle.pool.specs.Held.{microIn, seen, featureOf}
 use Rattle.denstream.specs.View.{view}
 use Rattle.denstream.proofs.stream.DenStream.potential_stats.Statement.{statement}
 use Rattle.denstream.proofs.stream.DenStream.potential_stats.Tie as tie
@@ -35,7 +42,9 @@ returns c =
     let n = c .before .before .before .before .before .before .before .before .before .before .before .before .before .potential-held in
     let fs = c .before .before .before .before .before .before .before .before .before .before .before .features in
     let ws = c .before .before .before .before .before .before .before .before .before .before .faded-weights in
-    told (s .potential) (s .params .dim) (n .result) _ (n .ensures) (fs .result) (fs .ensures) (s .params .lambda) (s .t) (take (n .result) (ws .result)) (a .centres .now) (a .weights .now) (a .radii .now) _ (ws .ensures) (c .before .before .before .before .before .before .statistics .ensures)
+    let d = min (s .params .dim) maxDim in
+    told featureOf (microIn d) (s .params .dim) (n .result) (λ m. refl) (s .potential) (fs .result) (fs .ensures) (fadedWeight (s .params .lambda) (s .t)) (λ m. refl) (take (n .result) (ws .result)) (a .centres .now) (a .weights .now) (a .radii .now) _ (ws .ensures) (c .before .before .before .before .before .before .statistics .ensures)
+    ∙ ap (λ (h : ℕ). statisticsRead (map featureOf (seen d h (s .potential))) (map (fadedWeight (s .params .lambda) (s .t)) (seen d h (s .potential))) (a .centres .now) (a .weights .now) (a .radii .now)) (n .ensures)
 
 pub potential-stats-spec : {M : Type 1} → statement M
 potential-stats-spec =

@@ -1,7 +1,13 @@
 -- `DenStream::try_predict` meets its contract. Assumes nothing.
+use Prim.Native.Nat.{ℕ, min}
+use mathlib.Core.Path.{refl, ap, _∙_}
+use mathlib.Core.List.{map}
 use lib.ListN.{take}
 use borrow.Author.Needs.{needs}
-use Rattle.denstream.proofs.ReadOuts.{predicted}
+use Rattle.feature.specs.Feature.{maxDim}
+use Rattle.model.specs.ReadOut.{predictOf}
+use Rattle.readout.specs.SeenLaws.{predicted}
+use Rattle.pool.specs.Held.{microIn, seen, featureOf}
 use Rattle.denstream.specs.View.{view}
 use Rattle.denstream.proofs.stream.DenStream.try_predict.Statement.{statement}
 use Rattle.denstream.proofs.stream.DenStream.try_predict.Tie as tie
@@ -22,7 +28,10 @@ returns c =
     let s = a .self in
     let n = c .before .before .before .before .potential-held in
     let fs = c .before .before .features in
-    predicted (s .potential) (s .params .dim) (n .result) _ (n .ensures) (fs .result) (fs .ensures) (s .params .eps2) (take (s .«label_count») (s .labels)) (a .x .now) _ (c .predict .ensures)
+    let d = min (s .params .dim) maxDim in
+    let labels = take (s .«label_count») (s .labels) in
+    predicted featureOf (microIn d) (s .params .dim) (n .result) (λ m. refl) (s .potential) (fs .result) (fs .ensures) (s .params .eps2) labels (a .x .now) _ (c .predict .ensures)
+    ∙ ap (λ (h : ℕ). predictOf d (s .params .eps2) (map featureOf (seen d h (s .potential))) labels (a .x .now)) (n .ensures)
 
 pub try-predict-spec : {M : Type 1} → statement M
 try-predict-spec = tie.close (tie.spec potential-held-requires features-requires predict-requires returns)

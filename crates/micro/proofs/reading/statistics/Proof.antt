@@ -1,9 +1,14 @@
--- `micro_stats` meets its contract. Assumes nothing.
+-- `statistics` meets its contract. Assumes nothing.
+use Prim.Native.Nat.{min}
+use mathlib.Core.Path.{refl}
 use lib.ListN.{take}
+use Rattle.feature.specs.Feature.{maxDim}
 use borrow.Author.Needs.{needs}
-use Rattle.dbstream.proofs.Readings.{told}
-use Rattle.dbstream.proofs.DbStream.micro_stats.Statement.{statement}
-use Rattle.dbstream.proofs.DbStream.micro_stats.Tie as tie
+use Rattle.model.specs.DbInsert.{fadedWeight}
+use Rattle.readout.specs.SeenLaws.{told}
+use Rattle.micro.specs.Held.{cutTo, featureOf}
+use Rattle.micro.proofs.reading.statistics.Statement.{statement}
+use Rattle.micro.proofs.reading.statistics.Tie as tie
 
 features-requires : tie.Need-features-requires
 features-requires c κs = search needs
@@ -25,13 +30,13 @@ same-length-3 c = search needs
 
 returns : tie.Need-returns
 returns c =
-    let a = c .before .before .before .before .before .before .before .before .before .before .before .before .before .before .before .before .args in
+    let a = c .before .before .before .before .before .before .before .before .before .before .before .before .before .before .before .args in
     let cfs = c .before .before .before .before .before .before .before .before .before .before .before .features in
     let ws = c .before .before .before .before .before .before .before .before .before .before .faded-weights in
-    told (a .self) (cfs .result) (cfs .ensures) (take (a .self .count) (ws .result)) (a .centres .now) (a .weights .now) (a .radii .now) _ (ws .ensures) (c .before .before .before .before .before .before .statistics .ensures)
+    told featureOf (cutTo (min (a .dim) maxDim)) (a .dim) (a .n) (λ m. refl) (a .micros) (cfs .result) (cfs .ensures) (fadedWeight (a .lambda) (a .t)) (λ m. refl) (take (a .n) (ws .result)) (a .centres .now) (a .weights .now) (a .radii .now) _ (ws .ensures) (c .before .before .before .before .before .before .statistics .ensures)
 
-pub micro-stats-spec : {M : Type 1} → statement M
-micro-stats-spec =
+pub statistics-spec : {M : Type 1} → statement M
+statistics-spec =
     tie.close
     (tie.spec
     features-requires
