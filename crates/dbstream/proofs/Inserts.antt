@@ -105,12 +105,12 @@ module _ {s : DbStream} {x y : List Float} {d : ℕ} {f : Scan} (m : Met s x y d
       ap₂ (λ (a b : Bool). a || b)
       (by-cases (ℕ-discrete (f .count) 0) (λ h. ap not (eq-eqb (f .count) 0 h) ∙ sym (none h)) (λ h. ap not (ne-eqb (f .count) 0 h) ∙ sym (some h))) free-is
 
-  micros-born : f .count ≡ 0 → s .count < microsMost → microsBy s f y ≡ view s .micros ++ newborn (dimOf s) (record { 0 = s .«next_id» }) (s .t) x ∷ []
+  micros-born : f .count ≡ 0 → s .count < microsMost → microsBy s f y ≡ view s .micros ++ newborn (dimOf s) (s .«next_id») (s .t) x ∷ []
   micros-born z h =
       rw (eq-eqb (f .count) 0 z, lt-ltb (s .count) microsMost h)
-      (map-append (cutTo (dimOf s)) (take (s .count) (s .micros)) (newborn maxDim (record { 0 = s .«next_id» }) (s .t) y ∷ [])
+      (map-append (cutTo (dimOf s)) (take (s .count) (s .micros)) (newborn maxDim (s .«next_id») (s .t) y ∷ [])
       ∙ ap (λ (v : DbMicro). view s .micros ++ v ∷ [])
-      (ap (λ (q : List Float). cutTo (dimOf s) (newborn maxDim (record { 0 = s .«next_id» }) (s .t) q)) (m .point ex) ∙ newborn-view (dimOf s) x (ex ∙ m .coordinates) (omega arith) (s .t) (record { 0 = s .«next_id» })))
+      (ap (λ (q : List Float). cutTo (dimOf s) (newborn maxDim (s .«next_id») (s .t) q)) (m .point ex) ∙ newborn-view (dimOf s) x (ex ∙ m .coordinates) (omega arith) (s .t) (s .«next_id»)))
 
   micros-absorbed : f .count ≢ 0 → microsBy s f y ≡ map (absorbed (s .r) (s .lambda) (s .t) x) (view s .micros)
   micros-absorbed h =
@@ -128,11 +128,11 @@ module _ {s : DbStream} {x y : List Float} {d : ℕ} {f : Scan} (m : Met s x y d
   placed-is free =
       by-cases (ℕ-discrete (f .count) 0)
       (λ h.
-      ap (λ (q : ℕ). changed s q (microsBy s f y) (gainedBy s f)) (rw (eq-eqb (f .count) 0 h, lt-ltb (s .count) microsMost (free h)) refl)
-      ∙ ap₂ (changed s ((s .«next_id» + 1) % 2 ^ 64)) (micros-born h (free h)) (links-stay h)
+      ap (λ (q : MicroId). changed s q (microsBy s f y) (gainedBy s f)) (rw (eq-eqb (f .count) 0 h, lt-ltb (s .count) microsMost (free h)) refl)
+      ∙ ap₂ (changed s (record { 0 = (s .«next_id» .0 + 1) % 2 ^ 64 })) (micros-born h (free h)) (links-stay h)
       ∙ sym (ap (λ (c : Bool). cond c (joined (view s) x) (born (view s) x)) (none h)))
       (λ h.
-      ap (λ (q : ℕ). changed s q (microsBy s f y) (gainedBy s f)) (rw (ne-eqb (f .count) 0 h) refl)
+      ap (λ (q : MicroId). changed s q (microsBy s f y) (gainedBy s f)) (rw (ne-eqb (f .count) 0 h) refl)
       ∙ ap₂ (changed s (s .«next_id»)) (micros-absorbed h) (ap (λ (q : List MicroId). foldl (gainOf (s .lambda) (s .t)) (view s .links) (pairsOf q)) (met .neighbours))
       ∙ sym (ap (λ (c : Bool). cond c (joined (view s) x) (born (view s) x)) (some h)))
 

@@ -42,7 +42,7 @@ module _
         tGap = s .«t_gap»;
         floor = s .floor;
         t = s .t;
-        next = s .«next_id»;
+        next = s .«next_id» .0;
         micros = view s .micros;
         links = view s .links;
         labels = labels;

@@ -36,7 +36,7 @@ module _ (s : DbStream) (n : ℕ) (ms : List DbMicro) (ids : List MicroId) (k : 
         tGap = s .«t_gap»;
         floor = s .floor;
         t = s .t;
-        next = s .«next_id»;
+        next = s .«next_id» .0;
         micros = kept;
         links = bound;
         labels = view s .labels;
@@ -61,7 +61,7 @@ module _ (s : DbStream) (n : ℕ) (ms : List DbMicro) (ids : List MicroId) (k : 
           ∙ retain-among (s .lambda) (s .floor) (s .t) (held (dimOf s) n ms) (view s .links)
 
 -- ---- the stream as the steps of an insert change it
-abbrev pub having : DbStream → (next : ℕ) → List DbMicro → (count : ℕ) → List Link → (links labels : ℕ) → (t : Float) → DriftMonitor → DbStream
+abbrev pub having : DbStream → MicroId → List DbMicro → (count : ℕ) → List Link → (links labels : ℕ) → (t : Float) → DriftMonitor → DbStream
 having s next ms count ls links labels t m =
     record {
       dim = s .dim;
@@ -82,7 +82,7 @@ having s next ms count ls links labels t m =
       drift = m;
     }
 
-abbrev pub withMicros : DbStream → (next : ℕ) → List DbMicro → (count : ℕ) → DbStream
+abbrev pub withMicros : DbStream → MicroId → List DbMicro → (count : ℕ) → DbStream
 withMicros s next ms count = having s next ms count (s .links) (s .«link_count») (s .«label_count») (s .t) (s .drift)
 
 abbrev pub withLinks : DbStream → List Link → DbStream
@@ -103,7 +103,7 @@ abbrev pub goal : DbStream → (lambda t : Float) → List MicroId → ℕ → L
 goal s lambda t ids k = foldl (gainOf lambda t) (take (s .«link_count») (s .links)) (pairsOf (take k ids))
 
 -- u is s with the point in its micro-clusters and with the loop's links, of which n are held; m and time are the clock's
-module _ (s : DbStream) (f : Scan) (x : List Float) (near : Nearest) (next : ℕ) (ms : List DbMicro) (count : ℕ) (u : DbStream) (n : ℕ) (time : Float) (m : DriftMonitor) where
+module _ (s : DbStream) (f : Scan) (x : List Float) (near : Nearest) (next : MicroId) (ms : List DbMicro) (count : ℕ) (u : DbStream) (n : ℕ) (time : Float) (m : DriftMonitor) where
   pub beaten :
       take count ms ≡ placedAmong f (s .r) (s .lambda) (s .t) (s .«next_id») x (s .count) (take (s .count) (s .micros)) → next ≡ nextAfter f (s .count) (s .«next_id») →
       u ≡ withLinks (withMicros s next ms count) (u .links) → take n (u .links) ≡ goal s (s .lambda) (s .t) (f .ids) (f .count) → time ≡ s .t ⊕ one → drift.view m ≡ observeOf (drift.view (s .drift)) near (s .t) →
@@ -112,7 +112,7 @@ module _ (s : DbStream) (f : Scan) (x : List Float) (near : Nearest) (next : ℕ
       ap (λ (v : DbStream). view (having v (v .«next_id») (v .micros) (v .count) (u .links) n 0 time m)) is
       ∙ ap (λ (ls : List Link). at next (held (dimOf s) count ms) ls time (drift.view m)) gained
       ∙ ap (λ (l : List DbMicro). at next (map (cutTo (dimOf s)) l) links time (drift.view m)) placed
-      ∙ ap (λ (q : ℕ). at q micros links time (drift.view m)) numbered
+      ∙ ap (λ (q : MicroId). at q micros links time (drift.view m)) numbered
       ∙ ap₂ (at (nextAfter f (s .count) (s .«next_id»)) micros links) later seen
     where
       links : List Link
@@ -121,14 +121,14 @@ module _ (s : DbStream) (f : Scan) (x : List Float) (near : Nearest) (next : ℕ
       micros : List DbMicro
       micros = map (cutTo (dimOf s)) (placedAmong f (s .r) (s .lambda) (s .t) (s .«next_id») x (s .count) (take (s .count) (s .micros)))
 
-      at : ℕ → List DbMicro → List Link → Float → Monitor → State
+      at : MicroId → List DbMicro → List Link → Float → Monitor → State
       at number held bound t monitor =
           record {
             settings = view s .settings;
             tGap = s .«t_gap»;
             floor = s .floor;
             t = t;
-            next = number;
+            next = number .0;
             micros = held;
             links = bound;
             labels = [];

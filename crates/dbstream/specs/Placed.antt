@@ -1,9 +1,9 @@
 -- The stream after the micro-clusters and links of an insert and before its tick, by what the scan found. Definitions only.
-use Prim.Native.Nat.{ℕ}
 use mathlib.Core.List.{List, [], map, foldl}
 use lib.Ieee.{Float}
 use lib.ListN.{take}
 use Rattle.drift.specs.Monitor as drift
+use Rattle.model.specs.declared.micro.MicroId.{MicroId}
 use Rattle.model.specs.declared.micro.DbMicro.{DbMicro}
 use Rattle.model.specs.declared.link.Link.{Link}
 use Rattle.model.specs.DbState.{State}
@@ -15,14 +15,14 @@ use Rattle.dbstream.specs.declared.DbStream.{DbStream}
 use Rattle.dbstream.specs.Stream.{dimOf, settingsOf}
 
 -- s with these micro-clusters, links and next creation number, and no labels
-abbrev pub changed : DbStream → (next : ℕ) → List DbMicro → List Link → State
+abbrev pub changed : DbStream → MicroId → List DbMicro → List Link → State
 changed s next ms ls =
     record {
       settings = settingsOf s;
       tGap = s .«t_gap»;
       floor = s .floor;
       t = s .t;
-      next = next;
+      next = next .0;
       micros = ms;
       links = ls;
       labels = [];

@@ -42,7 +42,8 @@ impl DbStream {
         let grown = p.micros;
         self.micros = grown;
         self.count = p.count;
-        self.next_id = p.next_id;
+        let next = p.next_id;
+        self.next_id = next;
         let ids = scan.ids;
         let mut pass = Pass::first(ids, self.link_count, lambda, t);
         while pass.walk.j < scan.count {

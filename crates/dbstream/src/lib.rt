@@ -11,6 +11,7 @@ use model::DbMicro;
 use model::LINKS;
 use model::Link;
 use model::MICROS;
+use model::MicroId;
 pub use opening::Opened;
 
 // The arrays hold as many elements as their counts say; links stand in the order of their ends' creation numbers.
@@ -24,7 +25,7 @@ pub struct DbStream {
     pub t_gap: f64,
     pub floor: f64,
     pub t: f64,
-    pub next_id: u64,
+    pub next_id: MicroId,
     pub micros: [DbMicro; MICROS],
     pub count: usize,
     pub links: [Link; LINKS],

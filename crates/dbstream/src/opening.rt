@@ -49,7 +49,7 @@ impl DbStream {
             t_gap,
             floor,
             t: 0.0,
-            next_id: 0,
+            next_id: id,
             micros,
             count: 0,
             links,

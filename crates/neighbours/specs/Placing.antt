@@ -7,6 +7,7 @@ use lib.Ieee.{Float}
 use lib.ListN.{take}
 use Rattle.float.specs.Rounded.{_⊗_}
 use Rattle.feature.specs.Feature.{maxDim}
+use Rattle.model.specs.declared.micro.MicroId.{MicroId}
 use Rattle.model.specs.declared.micro.DbMicro.{DbMicro}
 use Rattle.model.specs.Limits.{microsMost}
 use Rattle.model.specs.DbInsert.{newborn, absorbs}
@@ -14,15 +15,15 @@ use Rattle.neighbours.specs.declared.scan.Scan.{Scan}
 use Rattle.neighbours.specs.Near.{absorbNear}
 
 -- "With none, a new one goes to the end, with the next creation number", where there is a place; "Otherwise each neighbour fades to t and absorbs the point"
-abbrev pub placedAmong : Scan → (r lambda t : Float) (next : ℕ) → List Float → (n : ℕ) → List DbMicro → List DbMicro
+abbrev pub placedAmong : Scan → (r lambda t : Float) → MicroId → List Float → (n : ℕ) → List DbMicro → List DbMicro
 placedAmong f r lambda t next x n ms =
     cond (eqb (f .count) 0)
-    (cond (ltb n microsMost) (ms ++ newborn maxDim (record { 0 = next }) t x ∷ []) ms)
+    (cond (ltb n microsMost) (ms ++ newborn maxDim next t x ∷ []) ms)
     (absorbNear (r ⊗ r) (absorbs lambda t x) (take n (f .distances)) ms)
 
 -- creation numbers are 64 bits wide
-abbrev pub nextAfter : Scan → (n next : ℕ) → ℕ
-nextAfter f n next = cond (eqb (f .count) 0) (cond (ltb n microsMost) ((next + 1) % 2 ^ 64) next) next
+abbrev pub nextAfter : Scan → (n : ℕ) → MicroId → MicroId
+nextAfter f n next = cond (eqb (f .count) 0) (cond (ltb n microsMost) (record { 0 = (next .0 + 1) % 2 ^ 64 }) next) next
 
 -- "Would the point be absorbed, or are fewer than 64 micro-clusters held?"
 abbrev pub hasPlaceBy : Scan → (held : ℕ) → Bool

@@ -33,14 +33,14 @@ fn absorbed(m: DbMicro, x: [f64; MAX_DIM], dim: usize, lambda: f64, t: f64) -> D
 pub struct Placed {
     pub micros: [DbMicro; MICROS],
     pub count: usize,
-    pub next_id: u64,
+    pub next_id: MicroId,
 }
 
 // The neighbours that the scan found absorb the point; with none, a new one goes to the end, where there is a place.
 pub fn with_point(
     mut micros: [DbMicro; MICROS],
     n: usize,
-    next_id: u64,
+    next_id: MicroId,
     scan: Scan,
     x: [f64; MAX_DIM],
     dim: usize,
@@ -56,9 +56,9 @@ pub fn with_point(
     let mut next = next_id;
     if scan.count == 0 {
         if held < MICROS {
-            micros[held] = newborn(x, dim, t, MicroId(next_id));
+            micros[held] = newborn(x, dim, t, next_id);
             count = held + 1;
-            next = std::num::wrapping_add_u64(next_id, 1);
+            next = MicroId(std::num::wrapping_add_u64(next_id.0, 1));
         }
     } else {
         let ds = scan.distances;

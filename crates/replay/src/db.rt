@@ -144,7 +144,8 @@ fn figures(line: &mut [u8], s: DbStream) {
     let monitor = s.drift;
     let head = put(line, 0, b"db");
     let t = put_whole(line, head, s.t);
-    let i = put_number(line, t, s.next_id);
+    let next = s.next_id;
+    let i = put_number(line, t, next.0);
     let m = put_micros(line, i, micros, s.count, s.dim);
     let l = put_links(line, m, links, s.link_count);
     let k = put_labels(line, l, kept, s.label_count);

@@ -22,10 +22,10 @@ use Rattle.dbstream.proofs.DbStream.taken.Statement.{statement}
 use Rattle.dbstream.proofs.DbStream.taken.Tie as tie
 
 abbrev Inv-loop : tie.InvT-loop
-Inv-loop done scan dim self₀ t lambda n id ids pass₀ self pass = Linked self₀ self × Passing lambda t (scan .ids) (scan .count) (goal self₀ lambda t (scan .ids) (scan .count)) (self .links) pass × (length (self .links) ≡ 2016)
+Inv-loop done scan dim self₀ t lambda n ids pass₀ self pass = Linked self₀ self × Passing lambda t (scan .ids) (scan .count) (goal self₀ lambda t (scan .ids) (scan .count)) (self .links) pass × (length (self .links) ≡ 2016)
 
 abbrev μ-loop : tie.MeasureT-loop
-μ-loop done scan dim self₀ t lambda n id ids pass₀ self pass = toGo (scan .ids) (scan .count) pass
+μ-loop done scan dim self₀ t lambda n ids pass₀ self pass = toGo (scan .ids) (scan .count) pass
 
 -- the places of the arrays
 links-room : (c : tie.Start Inv-loop μ-loop) → length (c .args .t1 .links) ≡ 2016
@@ -47,7 +47,7 @@ first-requires c κs = search needs
 
 loop-holds : tie.Need-loop-holds Inv-loop μ-loop
 loop-holds c =
-    let e = c .before .before .before .before .before .before in
+    let e = c .before .before .before .before .before .before .before .before in
     let s = e .args .t1 in
     (linked-first _, starts (s .lambda) (s .t) (e .args .scan .ids) (e .args .scan .count) (e .args .scan .count) (s .links) (s .«link_count») (c .first .result) (ids-room e) (omega (arith, e .pre)) (links-room e) (c .first .ensures), links-room e)
 
@@ -73,11 +73,11 @@ element-set-from-new c = search needs
 going :
     (c : tie.After-step Inv-loop μ-loop) →
     let k = c .before .before .before .before .before .before .loop in
-    let a = c .before .before .before .before .before .before .before .before .before .before .before .before .before .args in
+    let a = c .before .before .before .before .before .before .before .before .before .before .before .before .before .before .before .args in
     Kept (a .t1 .lambda) (a .t1 .t) (a .scan .ids) (a .scan .count) (goal (a .t1) (a .t1 .lambda) (a .t1 .t) (a .scan .ids) (a .scan .count)) (k .self .links) (k .pass) (set (k .self .links) (c .before .before .place .result) (c .step .result .link)) (c .step .result .pass)
 going c =
     let k = c .before .before .before .before .before .before .loop in
-    let a = c .before .before .before .before .before .before .before .before .before .before .before .before .before .args in
+    let a = c .before .before .before .before .before .before .before .before .before .before .before .before .before .before .before .args in
     stepped (a .t1 .lambda) (a .t1 .t) (a .scan .ids) (a .scan .count) (goal (a .t1) (a .t1 .lambda) (a .t1 .t) (a .scan .ids) (a .scan .count)) (k .self .links) (k .pass) (k .inv .1) (c .before .before .before .if2 .taken) _ _ (c .before .before .place .ensures) _ (c .step .ensures)
 
 loop-less : tie.Need-loop-less Inv-loop μ-loop
@@ -96,21 +96,21 @@ loop-again c =
 told :
     (c : tie.After-seen Inv-loop μ-loop) →
     let k = c .before .before .before .before .before .before .before .loop in
-    let a = c .before .before .before .before .before .before .before .before .before .before .before .before .before .before .args in
+    let a = c .before .before .before .before .before .before .before .before .before .before .before .before .before .before .before .before .args in
     Ticks (record { t = a .t1 .t; period = k .self .«t_gap»; drift = k .self .drift }) (a .scan .nearest) (c .before .tick .result)
-told c = subst (λ (q : Clock). Ticks q (c .before .before .before .before .before .before .before .before .before .before .before .before .before .before .args .scan .nearest) (c .before .tick .result)) (c .before .before .at .ensures) (c .before .tick .ensures)
+told c = subst (λ (q : Clock). Ticks q (c .before .before .before .before .before .before .before .before .before .before .before .before .before .before .before .before .args .scan .nearest) (c .before .tick .result)) (c .before .before .at .ensures) (c .before .tick .ensures)
 
 -- what the clock leaves is document 01's stream before its cleanup
 beat-is :
     (c : tie.After-seen Inv-loop μ-loop) →
     let k = c .before .before .before .before .before .before .before .loop in
-    let a = c .before .before .before .before .before .before .before .before .before .before .before .before .before .before .args in
+    let a = c .before .before .before .before .before .before .before .before .before .before .before .before .before .before .before .before .args in
     let ticked = c .before .tick .result in
     view (having (k .self) (k .self .«next_id») (k .self .micros) (k .self .count) (k .self .links) (k .pass .count) 0 (ticked .t) (ticked .drift)) ≡ beat (placedBy (a .t1) (a .scan) (take (a .dim) (a .x))) (a .scan .nearest)
 beat-is c =
     let k = c .before .before .before .before .before .before .before .loop in
-    let a = c .before .before .before .before .before .before .before .before .before .before .before .before .before .before .args in
-    let p = c .before .before .before .before .before .before .before .before .before .before .before .with-point in
+    let a = c .before .before .before .before .before .before .before .before .before .before .before .before .before .before .before .before .args in
+    let p = c .before .before .before .before .before .before .before .before .before .before .before .before .with-point in
     let ticked = c .before .tick .result in
     beaten (a .t1) (a .scan) (take (a .dim) (a .x)) (a .scan .nearest) (p .result .«next_id») (p .result .micros) (p .result .count) (k .self) (k .pass .count) (ticked .t) (ticked .drift)
     (p .ensures .0) (p .ensures .1) (k .inv .0 .rest) (ends _ _ _ _ _ _ _ (k .inv .1) (c .before .before .before .before .if2 .left)) (told c .later)
@@ -118,10 +118,10 @@ beat-is c =
 
 due-is :
     (c : tie.After-seen Inv-loop μ-loop) →
-    let a = c .before .before .before .before .before .before .before .before .before .before .before .before .before .before .args in
+    let a = c .before .before .before .before .before .before .before .before .before .before .before .before .before .before .before .before .args in
     c .before .tick .result .due ≡ isMultiple (a .t1 .t ⊕ one) (a .t1 .«t_gap»)
 due-is c =
-    let a = c .before .before .before .before .before .before .before .before .before .before .before .before .before .before .args in
+    let a = c .before .before .before .before .before .before .before .before .before .before .before .before .before .before .before .before .args in
     told c .due ∙ ap (λ (v : DbStream). isMultiple (a .t1 .t ⊕ one) (v .«t_gap»)) (c .before .before .before .before .before .before .before .loop .inv .0 .rest)
 
 at-requires : tie.Need-at-requires Inv-loop μ-loop
@@ -135,14 +135,14 @@ cleaned-requires c κs = search needs
 
 returns-2 : tie.Need-returns-2 Inv-loop μ-loop
 returns-2 c =
-    let a = c .before .before .before .before .before .before .before .before .before .before .before .before .before .before .before .before .args in
-    let done = not-false _ (c .before .before .before .before .before .before .before .before .before .before .before .before .before .before .before .if1 .left) in
+    let a = c .before .before .before .before .before .before .before .before .before .before .before .before .before .before .before .before .before .before .args in
+    let done = not-false _ (c .before .before .before .before .before .before .before .before .before .before .before .before .before .before .before .before .before .if1 .left) in
     (c .cleaned .ensures ∙ ap cleanup (beat-is (c .before .before)) ∙ tick-cleans _ (a .scan .nearest) (sym (due-is (c .before .before)) ∙ c .before .if3 .taken) ∙ when-done _ _ _ done, λ q. absurd (true≢false (sym done ∙ q)))
 
 returns-3 : tie.Need-returns-3 Inv-loop μ-loop
 returns-3 c =
-    let a = c .before .before .before .before .before .before .before .before .before .before .before .before .before .before .before .args in
-    let done = not-false _ (c .before .before .before .before .before .before .before .before .before .before .before .before .before .before .if1 .left) in
+    let a = c .before .before .before .before .before .before .before .before .before .before .before .before .before .before .before .before .before .args in
+    let done = not-false _ (c .before .before .before .before .before .before .before .before .before .before .before .before .before .before .before .before .if1 .left) in
     (beat-is (c .before) ∙ tick-still _ (a .scan .nearest) (sym (due-is (c .before)) ∙ c .if3 .left) ∙ when-done _ _ _ done, λ q. absurd (true≢false (sym done ∙ q)))
 
 pub taken-spec : {M : Type 1} → statement M

@@ -11,10 +11,10 @@ use Rattle.neighbours.proofs.absorption.with_point.Statement.{statement
 use Rattle.neighbours.proofs.absorption.with_point.Tie as tie
 
 abbrev Inv-loop : tie.InvT-loop
-Inv-loop n next-id x dim r lambda t micros₀ held count next ds r2 i₀ micros i = Absorbing r2 (absorbs lambda t (take dim x)) held ds micros₀ micros i
+Inv-loop n x dim r lambda t micros₀ held count next ds r2 i₀ micros i = Absorbing r2 (absorbs lambda t (take dim x)) held ds micros₀ micros i
 
 abbrev μ-loop : tie.MeasureT-loop
-μ-loop n next-id x dim r lambda t micros₀ held count next ds r2 i₀ micros i = held - i
+μ-loop n x dim r lambda t micros₀ held count next ds r2 i₀ micros i = held - i
 
 -- the places of the scan's distances
 distances-room : (c : tie.Start Inv-loop μ-loop) → length (c .args .scan .distances) ≡ 64
