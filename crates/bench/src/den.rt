@@ -37,5 +37,5 @@ pub fn clusters(kind: u64, n: u64) -> f64 {
         s = s.cluster();
         i += 1;
     }
-    double(s.n_clusters() as u64)
+    double(den_reading::n_clusters(s) as u64)
 }

@@ -2,4 +2,3 @@ pub mod Openings
 pub mod Ticks
 pub mod Inserts
 pub mod Labels
-pub mod Readings

@@ -3,7 +3,6 @@ mod families;
 mod insert;
 mod opening;
 mod pruning;
-mod reading;
 mod stream;
 
 pub use insert::Inserted;

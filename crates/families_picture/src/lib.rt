@@ -23,9 +23,9 @@ fn drawn(stream: DbStream) -> Text
     let mut centres = [0.0; CENTRES];
     let mut weights = [0.0; MICROS];
     let mut radii = [0.0; MICROS];
-    clustered.micro_stats(&mut centres, &mut weights, &mut radii);
+    db_reading::micro_stats(clustered, &mut centres, &mut weights, &mut radii);
     let mut labels = [-1i64; MICROS];
-    clustered.labels(&mut labels);
+    db_reading::labels(clustered, &mut labels);
     let report = clustered.drift();
     let n = clustered.micro_count();
     picture_text::drawn(page::blank(), centres, weights, labels, n, report.alarms)

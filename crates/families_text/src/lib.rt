@@ -17,7 +17,7 @@ fn clustered_text(stream: DbStream) -> Text
     let micros = clustered.micros;
     let ids = micro::ids_of(micros, n);
     let mut labels = [-1i64; MICROS];
-    clustered.labels(&mut labels);
+    db_reading::labels(clustered, &mut labels);
     let report = clustered.drift();
     families_lines::listing(ids, labels, n, report)
 }

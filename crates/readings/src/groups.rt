@@ -14,7 +14,7 @@ pub fn three_zeros() {
     let s = opened.stream;
     let clustered = with_zero(with_zero(with_zero(s))).cluster();
     let mut labels = [0i64; 64];
-    clustered.labels(&mut labels);
+    den_reading::labels(clustered, &mut labels);
     io::print_decimal(STDOUT, clustered.potential_count() as u64);
     if labels[0] == -1 {
         io::write_all(STDOUT, b" potential, label -1\n");

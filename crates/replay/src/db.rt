@@ -42,7 +42,7 @@ fn labels(line: &mut [u8], s: DbStream, capacity: usize) {
     let count = s.label_count;
     let mut out = [0i64; MICROS];
     let n = lists::cut(capacity, MICROS);
-    let answer = s.labels(&mut out[..n]);
+    let answer = db_reading::labels(s, &mut out[..n]);
     let Reading::Written = answer else {
         say(line, b"refused 10");
         return;
@@ -53,7 +53,7 @@ fn labels(line: &mut [u8], s: DbStream, capacity: usize) {
 }
 
 fn predict(line: &mut [u8], s: DbStream, x: &[f64]) {
-    let answer = s.try_predict(x);
+    let answer = db_reading::try_predict(s, x);
     say_prediction(line, answer);
 }
 
@@ -67,7 +67,12 @@ fn statistics(line: &mut [u8], s: DbStream, c: usize, w: usize, r: usize) {
     let rs = lists::cut(r, MICROS);
     let n = s.micro_count();
     let dim = s.dim();
-    let answer = s.micro_stats(&mut centres[..cs], &mut weights[..ws], &mut radii[..rs]);
+    let answer = db_reading::micro_stats(
+        s,
+        &mut centres[..cs],
+        &mut weights[..ws],
+        &mut radii[..rs],
+    );
     let Reading::Written = answer else {
         say(line, b"refused 10");
         return;
@@ -76,7 +81,7 @@ fn statistics(line: &mut [u8], s: DbStream, c: usize, w: usize, r: usize) {
 }
 
 fn connectivity(line: &mut [u8], s: DbStream, a: u64, b: u64) {
-    let answer = s.connectivity(MicroId(a), MicroId(b));
+    let answer = db_reading::connectivity(s, MicroId(a), MicroId(b));
     say_connectivity(line, answer);
 }
 
@@ -86,7 +91,7 @@ fn drift(line: &mut [u8], s: DbStream) {
 }
 
 fn counts(line: &mut [u8], s: DbStream) {
-    say_counts(line, s.dim(), s.micro_count(), s.n_clusters());
+    say_counts(line, s.dim(), s.micro_count(), db_reading::n_clusters(s));
 }
 
 fn put_micro(line: &mut [u8], from: usize, m: DbMicro, dim: usize) -> usize {

@@ -37,7 +37,7 @@ fn labels(line: &mut [u8], s: DenStream, capacity: usize) {
     let count = s.label_count;
     let mut out = [0i64; MICROS];
     let n = lists::cut(capacity, MICROS);
-    let answer = s.labels(&mut out[..n]);
+    let answer = den_reading::labels(s, &mut out[..n]);
     let Reading::Written = answer else {
         say(line, b"refused 10");
         return;
@@ -48,7 +48,7 @@ fn labels(line: &mut [u8], s: DenStream, capacity: usize) {
 }
 
 fn predict(line: &mut [u8], s: DenStream, x: &[f64]) {
-    let answer = s.try_predict(x);
+    let answer = den_reading::try_predict(s, x);
     say_prediction(line, answer);
 }
 
@@ -62,7 +62,12 @@ fn statistics(line: &mut [u8], s: DenStream, c: usize, w: usize, r: usize) {
     let rs = lists::cut(r, MICROS);
     let n = s.potential_count();
     let dim = s.dim();
-    let answer = s.potential_stats(&mut centres[..cs], &mut weights[..ws], &mut radii[..rs]);
+    let answer = den_reading::potential_stats(
+        s,
+        &mut centres[..cs],
+        &mut weights[..ws],
+        &mut radii[..rs],
+    );
     let Reading::Written = answer else {
         say(line, b"refused 10");
         return;
@@ -76,7 +81,12 @@ fn drift(line: &mut [u8], s: DenStream) {
 }
 
 fn counts(line: &mut [u8], s: DenStream) {
-    say_counts(line, s.dim(), s.potential_count(), s.n_clusters());
+    say_counts(
+        line,
+        s.dim(),
+        s.potential_count(),
+        den_reading::n_clusters(s),
+    );
 }
 
 fn put_micro(line: &mut [u8], from: usize, m: Micro, dim: usize) -> usize {

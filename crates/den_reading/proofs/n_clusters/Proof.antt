@@ -1,8 +1,8 @@
--- `DenStream::n_clusters` meets its contract. Assumes nothing.
+-- `n_clusters` meets its contract. Assumes nothing.
 use borrow.Author.Needs.{needs}
 use Rattle.denstream.specs.View.{view}
-use Rattle.denstream.proofs.stream.DenStream.n_clusters.Statement.{statement}
-use Rattle.denstream.proofs.stream.DenStream.n_clusters.Tie as tie
+use Rattle.den_reading.proofs.n_clusters.Statement.{statement}
+use Rattle.den_reading.proofs.n_clusters.Tie as tie
 
 n-clusters-requires : tie.Need-n-clusters-requires
 n-clusters-requires c κs = search needs

@@ -1,7 +1,7 @@
-use Rattle.dbstream.proofs.Readings.{connected}
+use Rattle.db_reading.proofs.Readings.{connected}
 use borrow.Author.Needs.{needs}
-use Rattle.dbstream.proofs.DbStream.connectivity.Statement.{statement}
-use Rattle.dbstream.proofs.DbStream.connectivity.Tie as tie
+use Rattle.db_reading.proofs.connectivity.Statement.{statement}
+use Rattle.db_reading.proofs.connectivity.Tie as tie
 
 ids-of-requires : tie.Need-ids-of-requires
 ids-of-requires c κs = search needs
@@ -17,7 +17,7 @@ returns c =
     let a = c .before .before .before .before .before .args in
     let ids = c .before .before .before .ids-of in
     let mean = c .before .before .mean-weight in
-    connected (a .self) (a .a) (a .b) (ids .result) (mean .result) (ids .ensures) (mean .ensures) _ (c .connectivity .ensures)
+    connected (a .stream) (a .a) (a .b) (ids .result) (mean .result) (ids .ensures) (mean .ensures) _ (c .connectivity .ensures)
 
 pub connectivity-spec : {M : Type 1} → statement M
 connectivity-spec = tie.close (tie.spec ids-of-requires mean-weight-requires connectivity-requires returns)

@@ -1,4 +1,4 @@
--- `DenStream::try_predict` meets its contract. Assumes nothing.
+-- `try_predict` meets its contract. Assumes nothing.
 use Prim.Native.Nat.{ℕ, min}
 use mathlib.Core.Path.{refl, ap, _∙_}
 use mathlib.Core.List.{map}
@@ -8,9 +8,9 @@ use Rattle.feature.specs.Feature.{maxDim}
 use Rattle.model.specs.ReadOut.{predictOf}
 use Rattle.readout.specs.SeenLaws.{predicted}
 use Rattle.pool.specs.Held.{microIn, seen, featureOf}
 use Rattle.denstream.specs.View.{view}
-use Rattle.denstream.proofs.stream.DenStream.try_predict.Statement.{statement}
-use Rattle.denstream.proofs.stream.DenStream.try_predict.Tie as tie
+use Rattle.den_reading.proofs.try_predict.Statement.{statement}
+use Rattle.den_reading.proofs.try_predict.Tie as tie
 
 potential-held-requires : tie.Need-potential-held-requires
 potential-held-requires c κs = search needs
@@ -25,7 +25,7 @@ returns : tie.Need-returns
 unfolding view
 returns c =
     let a = c .before .before .before .before .before .before .before .args in
-    let s = a .self in
+    let s = a .stream in
     let n = c .before .before .before .before .potential-held in
     let fs = c .before .before .features in
     let d = min (s .params .dim) maxDim in

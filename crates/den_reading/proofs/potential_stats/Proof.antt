@@ -1,4 +1,4 @@
--- `DenStream::potential_stats` meets its contract. Assumes nothing.
+-- `potential_stats` meets its contract. Assumes nothing.
 use Prim.Native.Nat.{ℕ, min}
 use mathlib.Core.Path.{refl, ap, _∙_}
 use mathlib.Core.List.{map}
@@ -9,9 +9,9 @@ use Rattle.model.specs.DenInsert.{fadedWeight}
 use Rattle.model.specs.ReadOut.{statisticsRead}
 use Rattle.readout.specs.SeenLaws.{told}
 use Rattle.pool.specs.Held.{microIn, seen, featureOf}
 use Rattle.denstream.specs.View.{view}
-use Rattle.denstream.proofs.stream.DenStream.potential_stats.Statement.{statement}
-use Rattle.denstream.proofs.stream.DenStream.potential_stats.Tie as tie
+use Rattle.den_reading.proofs.potential_stats.Statement.{statement}
+use Rattle.den_reading.proofs.potential_stats.Tie as tie
 
 potential-held-requires : tie.Need-potential-held-requires
 potential-held-requires c κs = search needs
@@ -38,7 +38,7 @@ returns : tie.Need-returns
 unfolding view
 returns c =
     let a = c .before .before .before .before .before .before .before .before .before .before .before .before .before .before .before .before .before .before .args in
-    let s = a .self in
+    let s = a .stream in
     let n = c .before .before .before .before .before .before .before .before .before .before .before .before .before .potential-held in
     let fs = c .before .before .before .before .before .before .before .before .before .before .before .features in
     let ws = c .before .before .before .before .before .before .before .before .before .before .faded-weights in

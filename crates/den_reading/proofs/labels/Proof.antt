@@ -1,8 +1,8 @@
--- `DenStream::labels` meets its contract. Assumes nothing.
+-- `labels` meets its contract. Assumes nothing.
 use borrow.Author.Needs.{needs}
 use Rattle.denstream.specs.View.{view}
-use Rattle.denstream.proofs.stream.DenStream.labels.Statement.{statement}
-use Rattle.denstream.proofs.stream.DenStream.labels.Tie as tie
+use Rattle.den_reading.proofs.labels.Statement.{statement}
+use Rattle.den_reading.proofs.labels.Tie as tie
 
 read-labels-requires : tie.Need-read-labels-requires
 read-labels-requires c κs = search needs
