@@ -1,7 +1,9 @@
-use mathlib.Core.Path.{sym, _∙_}
+use Prim.Native.Nat.{ℕ}
+use mathlib.Core.Path.{sym, ap, _∙_}
+use mathlib.Core.List.{[], _∷_}
 use native.Mathlib.Omega.{arith}
-use lib.ListN.{take, length-map}
-use Rattle.model.specs.InsertLaws.{point-is, given-back}
+use lib.ListN.{length, take, length-map}
+use Rattle.model.specs.InsertLaws.{point-is, given-back, shape-said}
 use Rattle.dbstream.proofs.Inserts.{Met, inserted}
 use borrow.Author.Needs.{needs}
 use Rattle.dbstream.proofs.DbStream.try_insert.Statement.{statement}
@@ -48,11 +50,16 @@ taken-requires c κs = met (c .before .before .before) .scanned .places
 
 returns : tie.Need-returns
 returns c =
-    let m = met (c .before .before .before .before) in
+    let e = c .before .before .before .before in
+    let m = met e in
+    let d = e .before .before .before .cut in
     let place = c .before .before .before .has-place in
     let a = c .before .before .insertion-asked in
     let done = c .before .is-done in
-    (inserted m (a .result) (place .result) (place .ensures) (a .ensures) (done .result) _ (done .ensures) (c .taken .ensures .0), given-back (a .result) (done .result) _ _ (done .ensures) (c .taken .ensures .1))
+    let x = e .before .before .before .before .before .args .x .now in (
+      inserted m (a .result) (place .result) (place .ensures) (a .ensures) (done .result) _ (done .ensures) (c .taken .ensures .0),
+      (given-back (a .result) (done .result) _ _ (done .ensures) (c .taken .ensures .1), λ seven. shape-said (d .result) (length x) _ (place .result) (a .result) (a .ensures) seven ∙ ap (λ (q : ℕ). q ∷ length x ∷ []) (d .ensures)),
+    )
 
 pub try-insert-spec : {M : Type 1} → statement M
 try-insert-spec =
