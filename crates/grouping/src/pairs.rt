@@ -51,7 +51,7 @@ fn pair_row(
 }
 
 // All pairs, by the lower place, then by the higher; how many there are.
-pub fn close_pairs(
+pub(crate) fn close_pairs(
     pool: [Micro; MICROS],
     n: usize,
     dim: usize,

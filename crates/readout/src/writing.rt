@@ -4,7 +4,7 @@ ghost use Prim.Native.Nat.{_≤_};
 ghost use lib.ListN.{length};
 ghost use Rattle.model.specs.ReadOut.{written};
 
-pub fn write(from: &[f64], out: &mut [f64])
+pub(crate) fn write(from: &[f64], out: &mut [f64])
     requires { ⌜ length (now from) ≤ length (now out) ⌝ }
     ensures { λ r. ⌜ now (out .exit) ≡ written (now (from .entry)) (now (out .entry)) ⌝ }
 {
