@@ -57,6 +57,10 @@ starts lambda t ids many k ls count s all among size is =
     subst (Passing lambda t ids k (foldl (gainOf lambda t) (take count ls) (pairsOf (take many ids))) ls) (sym is)
     (refl, inl (refl, start lambda t ids many k ls count (min count linksMost) _ all among size refl refl))
 
+-- a place of the links is not cut
+small : (m : ℕ) → m < linksMost → min m (linksMost - 1) ≡ m
+small m h = omega arith
+
 never : {A : Type 0} → false ≡ true → A
 never e = absurd (true≢false (sym e))
 
@@ -202,15 +206,9 @@ module _ (lambda t : Float) (ids : List MicroId) (k : ℕ) (goal ls : List Link)
       (met right z q (p .0) (p .1) live
       (λ h. eq ∙ ap (λ (c : Bool). min (cond c (s .at) (s .walk .p)) (linksMost - 1)) (p .0) ∙ small (s .walk .p) (omega (arith, h, p .1 .count)))
       (ltb (s .walk .p) (s .count)) (before (getD ls q z) (s .walk .key)) (sameEnds (getD ls q z) (s .walk .key)) refl refl refl)
-    where
-      small : (m : ℕ) → m < linksMost → min m (linksMost - 1) ≡ m
-      small m h = omega arith
   turned (right, inr p) live z q eq r er =
       subst (Goes q) (sym (er ∙ ap (λ (c : Bool). cond c (carriedOf s (getD ls q z)) (lookedOf lambda t s (getD ls q z))) (p .0)))
       (carried right z q (p .0) (p .1) (eq ∙ ap (λ (c : Bool). min (cond c (s .at) (s .walk .p)) (linksMost - 1)) (p .0) ∙ small (s .at) (omega (arith, p .1 .place, p .1 .free))))
-    where
-      small : (m : ℕ) → m < linksMost → min m (linksMost - 1) ≡ m
-      small m h = omega arith
 
   pub stepped :
       Passing lambda t ids k goal ls s → s .walk .j < k → (z : Link) (q : ℕ) → q ≡ placeOf s → (r : Step) → (Right lambda t (s .factor) → r ≡ stepOf lambda t ids k s (getD ls q z)) → Kept (set ls q (r .link)) (r .pass)
