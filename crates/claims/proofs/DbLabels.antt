@@ -5,10 +5,11 @@ use mathlib.Core.Logic.{_↔_, inl, inr, ⊎-elim}
 use mathlib.Core.Bool.{Bool, true, false, _&&_, cond, true≢false}
 use mathlib.Core.List.{List, [], _∷_, map}
 use native.Mathlib.Omega.{arith}
-use lib.IntN.{ℤ, negsuc}
+use lib.IntN.{ℤ, pos, negsuc}
 use lib.ListN.{length, getD, length-map}
 use Rattle.union_find.specs.Pairs.{Chain, Listed, Joined}
 use Rattle.union_find.specs.ChainLaws.{chain-map, chain-more}
+use Rattle.union_find.specs.Forest.{rootsOf}
 use Rattle.labels.specs.LabelLaws as label
 use Rattle.labels.specs.LabelLaws.{LabelsTell}
 use Rattle.model.specs.declared.micro.MicroId.{MicroId}
@@ -21,7 +22,8 @@ use Rattle.model.specs.DbCluster.{placeOf, isStrong, strongOnes, strongAt, isDe
 use Rattle.claims.specs.Lists.{At, In, Ascending}
 use Rattle.claims.specs.DbClaims.{Older, StrongNumber, Step, LabelsTellFamilies}
 use Rattle.claims.proofs.Order.{and-true}
-use Rattle.claims.proofs.Places.{not-none, at-one, at-below, at-in, in-at, at-getD, test-there, there-test}
+use Rattle.claims.proofs.Places.{not-none, at-one, at-below, at-there, at-in, in-at, at-getD, test-there, there-test}
+use Rattle.claims.proofs.Counts.{Counted, labels-counted}
 use Rattle.claims.proofs.DbPlaces.{place-at, own-place}
 
 true-and : (a b c : Bool) → a ≡ true → b ≡ true → c ≡ true → (a && b && c) ≡ true
@@ -178,6 +180,15 @@ module _ (s : State) where
       label-is : (i : ℕ) (k : ℤ) → At (labelsOf s) i k → label.labelAt (labelsOf s) i ≡ k
       label-is i k h = at-getD (labelsOf s) i k (negsuc 0) h
 
+      counted : (i : ℕ) → Counted (label.labelAt (labelsOf s) i)
+      unfolding labelsOf labelsBy
+      counted i = labels-counted (strongOnes s) (rootsOf (length (strongOnes s)) (joinsOf s (s .links))) i
+
+      stands : (i : ℕ) (k : ℤ) → i < length (labelsOf s) → label.labelAt (labelsOf s) i ≡ k → At (labelsOf s) i k
+      stands i k h e =
+          let a = at-there (labelsOf s) i h in
+          subst (λ (v : ℤ). At (labelsOf s) i v) (sym (at-getD (labelsOf s) i (a .0) (negsuc 0) (a .1)) ∙ e) (a .1)
+
       pub labels-tell : LabelsTellFamilies (clusterOf s)
       labels-tell =
           record {
@@ -194,4 +205,10 @@ module _ (s : State) where
                   (⊎-elim (λ w. inl (strong-is i m h ∙ w .0, strong-is j n g ∙ w .1))
                   (λ w. inr (strong-is i m h ∙ w .0, strong-is j n g ∙ w .1, chains i j m n h g .1 (chain-more unclustered (w .2)))) f) ∙ label-is j l q),
             );
+            counts = λ i k g. ⊎-elim (λ e. inl (sym (label-is i k g) ∙ e)) (λ w. inr (w .0, sym (label-is i k g) ∙ w .1)) (counted i);
+            fromZero = λ i c m g h.
+                let l : i < length (labelsOf s) = at-below (labelsOf s) i (pos c) g in
+                let w = tell .fromZero i c m (omega (arith, tell .count)) (label-is i (pos c) g) h in
+                let b : w .0 < i = w .1 in
+                (w .0, w .1, stands (w .0) (pos m) (omega arith) (w .2));
           }

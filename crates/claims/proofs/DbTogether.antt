@@ -14,28 +14,17 @@ use Rattle.float.specs.Ordered.{le-trans-all}
 use Rattle.union_find.specs.ChainLaws.{chain-more}
 use Rattle.model.specs.declared.micro.DbMicro.{DbMicro}
 use Rattle.model.specs.Limits.{microsMost}
-use Rattle.model.specs.Outcome.{Outcome}
-use Rattle.model.specs.DbState.{Settings, State, fresh}
-use Rattle.model.specs.DbInsert.{fadedWeight, fadedLink, placed, insertOf}
+use Rattle.model.specs.DbState.{Settings, State}
+use Rattle.model.specs.DbInsert.{fadedWeight, fadedLink}
 use Rattle.model.specs.DbCluster.{clusterOf}
 use Rattle.claims.specs.Lists.{At, Ascending}
 use Rattle.claims.specs.DbClaims.{Older, Strong, StrongNumber, Step, LabelsTellFamilies, Laxer, StayTogether, after}
 use Rattle.claims.proofs.Places.{at-below, at-there}
-use Rattle.claims.proofs.Runs.{run-stays}
-use Rattle.claims.proofs.DbCases.{placed-cases, tick-cases, insert-cases}
+use Rattle.claims.proofs.DbSettings.{stays-set}
 use Rattle.claims.proofs.DbFresh.{from-fresh}
 use Rattle.claims.proofs.DbRoom.{at-most-64}
 use Rattle.claims.proofs.DbLabels.{labels-tell}
 use Rattle.claims.proofs.DbTwins.{twin, twins}
-
--- an insert leaves the settings
-insert-settings : (p : Settings) (s : State) (x : List Float) → s .settings ≡ p → insertOf s x .stream .settings ≡ p
-insert-settings p s x h =
-    insert-cases (λ (r : Outcome State). r .stream .settings ≡ p) s x (λ a q. h)
-    (λ l e. tick-cases (λ (u : State). u .settings ≡ p) (placed s x) _ placing placing)
-  where
-    placing : placed s x .settings ≡ p
-    placing = placed-cases (λ (u : State). u .settings ≡ p) s x (λ e. h) (λ e. h)
 
 -- what reaches a bound reaches one that is no larger
 reaches : (low high v : Float) → T (le low high) → le high v ≡ true → le low v ≡ true
@@ -123,4 +112,4 @@ stay-together p q laxer xs =
     s = after p xs
 
     same : s .settings ≡ p
-    same = run-stays insertOf (λ (u : State). u .settings ≡ p) (insert-settings p) xs (fresh p) refl
+    same = stays-set p xs .settings

@@ -18,14 +18,14 @@ use Rattle.model.specs.declared.answers.Insertion.the-variants.{Done}
 use Rattle.model.specs.Limits.{microsMost}
 use Rattle.model.specs.Outcome.{Outcome}
 use Rattle.model.specs.Run.{oneIfDone, acceptedIn}
-use Rattle.model.specs.DenState.{Settings, State, fresh}
+use Rattle.model.specs.DenState.{Settings, State, paramsOf, fresh}
 use Rattle.model.specs.DenInsert.{newborn, placed, potentialStays, outlierStays, beat, tickOf, takenOf, nearestFor, hasPlace, insertOf}
 use Rattle.claims.specs.Clock.{Counts}
 use Rattle.claims.specs.History.{seenIf}
 use Rattle.claims.specs.DenClaims.{FromFresh, after, told, seen}
 use Rattle.claims.proofs.Places.{at-below}
 use Rattle.claims.proofs.Clocks.{counts-insert, starts}
-use Rattle.claims.proofs.Runs.{run-keeps, run-watches, one-watched}
+use Rattle.claims.proofs.Runs.{run-keeps, run-watches, run-stays, one-watched}
 use Rattle.claims.proofs.DenCases.{placed-cases, tick-cases, insert-cases}
 
 -- ---- the clock
@@ -77,6 +77,18 @@ is-fresh p = record { clock = starts; places = omega arith }
 
 pub from-fresh : (p : Settings) (xs : List (List Float)) → FromFresh (acceptedIn (told p xs)) (after p xs)
 from-fresh p xs = subst (λ (k : ℕ). FromFresh k (after p xs)) (omega arith) (run-keeps insertOf FromFresh fresh-insert xs 0 (fresh p) (is-fresh p))
+
+-- ---- what the opening worked out
+insert-params : (p : Settings) (s : State) (x : List Float) → s .params ≡ paramsOf p → insertOf s x .stream .params ≡ paramsOf p
+insert-params p s x h =
+    insert-cases (λ (r : Outcome State). r .stream .params ≡ paramsOf p) s x (λ a q. h)
+    (λ l e. tick-cases (λ (u : State). u .params ≡ paramsOf p) (placed s x) _ placing placing)
+  where
+    placing : placed s x .params ≡ paramsOf p
+    placing = placed-cases (λ (u : State). u .params ≡ paramsOf p) s x (λ b f. h) (λ b f. h) (λ b f. h) (λ e. h)
+
+pub stays-set : (p : Settings) (xs : List (List Float)) → after p xs .params ≡ paramsOf p
+stays-set p xs = run-stays insertOf (λ (u : State). u .params ≡ paramsOf p) (insert-params p) xs (fresh p) refl
 
 -- ---- the drift monitor
 taken-drift : (s : State) (x : List Float) → takenOf s x .drift ≡ observeOf (s .drift) (nearestFor s x) (s .t)

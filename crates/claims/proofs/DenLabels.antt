@@ -5,6 +5,7 @@ use mathlib.Core.Bool.{Bool, true, false}
 use mathlib.Core.List.{List}
 use mathlib.Core.Logic.{_↔_, _⊎_, inl, inr, ⊎-elim}
 use native.Mathlib.Omega.{arith}
+use lib.IntN.{ℤ}
 use lib.Ieee.{Float, le, nan}
 use lib.ListN.{length, take, getD, length-map}
 use lib.Seq.{length-take-le, getD-take}
@@ -26,6 +27,7 @@ use Rattle.model.specs.DenInsert.{fadedWeight}
 use Rattle.model.specs.DenCluster.{joinsOf, fadedWeights, labelsOf, clusterOf}
 use Rattle.claims.specs.DenClaims.{OneGroup, Weighs, LabelsTellGroups}
 use Rattle.claims.proofs.Places.{at-there, at-getD, there-test}
+use Rattle.claims.proofs.Counts.{Counted, labels-counted}
 use Rattle.claims.proofs.DenPairs.{listed-step, step-listed}
 
 summed-more : {P Q : ℕ → Type 0} → ((k : ℕ) → P k ↔ Q k) → {i : ℕ} {sum v : Float} {ws : List Float} → Summed P i sum ws v → Summed Q i sum ws v
@@ -96,11 +98,12 @@ module _ (s : State) (labelled : s .labels ≡ labelsOf s) (few : length (s .pot
   counts : (i : ℕ) (v : Float) → i < n → Weighs s i v → getD mask i false ≡ le (s .params .mu) v
   counts i v h w = mask-at i h ∙ ap (le (s .params .mu)) (sym (weighs i h v .0 w))
 
-  tell : LabelsTell n (joinsOf s) mask (s .labels)
+  labels-are : s .labels ≡ label.labelsOf mask roots
   unfolding labelsOf labelsBy
-  tell =
-      subst (LabelsTell n (joinsOf s) mask) (sym (labelled ∙ ap (λ (m : ℕ). label.labelsOf mask (rootsOf m (joinsOf s))) mask-length))
-      (laws.labels-tell n low (joinsOf s) mask mask-length)
+  labels-are = labelled ∙ ap (λ (m : ℕ). label.labelsOf mask (rootsOf m (joinsOf s))) mask-length
+
+  tell : LabelsTell n (joinsOf s) mask (s .labels)
+  tell = subst (LabelsTell n (joinsOf s) mask) (sym labels-are) (laws.labels-tell n low (joinsOf s) mask mask-length)
 
   -- places of one group count alike
   alike : (i j : ℕ) → i < n → j < n → OneGroup s i j → getD mask i false ≡ getD mask j false
@@ -124,6 +127,8 @@ module _ (s : State) (labelled : s .labels ≡ labelsOf s) (few : length (s .pot
               (λ e. ⊎-elim (λ y. inl (sym c ∙ y .0, sym d ∙ y .1)) (λ y. inr (chains i j .0 (y .2))) (q .0 e)),
               (λ e. q .1 (⊎-elim (λ y. inl (c ∙ y .0, d ∙ y .1)) (λ g. both i j (getD mask i false) refl (alike i j (inside i h) (inside j k) g) (chains i j .1 g)) e)),
             );
+        counts = λ i h. subst (λ (l : List ℤ). Counted (laws.labelAt l i)) (sym labels-are) (labels-counted mask roots i);
+        fromZero = λ i c m h e l. tell .fromZero i c m (inside i h) e l;
       }
     where
       inside : (i : ℕ) → i < length (s .potential) → i < n

@@ -3,12 +3,14 @@ pub mod Order
 pub mod Places
 pub mod Cases
 pub mod Runs
+pub mod Counts
 pub mod Clocks
 pub mod Means
 pub mod Weight
 pub mod Weights
 pub mod DbPlaces
 pub mod DbCases
+pub mod DbSettings
 pub mod DbGains
 pub mod DbFresh
 pub mod DbNumbers

@@ -11,6 +11,7 @@ use Rattle.model.specs.DbState as db
 use Rattle.model.specs.DenState as den
 use Rattle.claims.specs.DbClaims as db-claim
 use Rattle.claims.specs.DenClaims as den-claim
+use Rattle.claims.proofs.DbSettings as db-set
 use Rattle.claims.proofs.DbFresh as db-fresh
 use Rattle.claims.proofs.DbFigures as db-figures
 use Rattle.claims.proofs.DbRoom.{fits, at-most-64}
@@ -27,6 +28,9 @@ pub dbstream : db-claim.Demand3
 dbstream =
     record {
       one = λ p opens xs. record {
+        settings = db-set.stays-set p xs .settings;
+        tGap = db-set.stays-set p xs .tGap;
+        floor = db-set.stays-set p xs .floor;
         labels = labels-tell (db-claim.after p xs) (db-fresh.from-fresh p xs .ascending) (at-most-64 p xs);
         holdings = db-fresh.from-fresh p xs;
         figures = db-figures.figures p xs;
@@ -48,6 +52,7 @@ pub denstream : den-claim.Demand3
 denstream =
     record {
       one = λ p opens xs. record {
+        params = den-fresh.stays-set p xs;
         labels = groups-told (den-claim.after p xs)
             (let h : length (den-claim.after p xs .potential) + length (den-claim.after p xs .outliers) ≤ microsMost = den-fresh.from-fresh p xs .places in omega arith);
         holdings = den-fresh.from-fresh p xs;

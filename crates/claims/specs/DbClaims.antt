@@ -5,7 +5,7 @@ use mathlib.Core.Logic.{_↔_, _⊎_, _≢_}
 use mathlib.Core.Bool.{true, false}
 use mathlib.Core.List.{List, _++_, map, foldl}
 use lib.Dec.{T}
-use lib.IntN.{ℤ, negsuc}
+use lib.IntN.{ℤ, pos, negsuc}
 use lib.ListN.{length}
 use lib.Ieee.{Float, le}
 use Rattle.float.specs.Rounded.{_⊗_, one, whole}
@@ -21,6 +21,7 @@ use Rattle.model.specs.declared.answers.Insertion.{Insertion}
 use Rattle.model.specs.declared.answers.Insertion.the-variants.{Done}
 use Rattle.model.specs.Limits.{microsMost, linksMost}
 use Rattle.model.specs.Run.{runOf, answersOf, acceptedIn}
+use Rattle.model.specs.Periods.{tGapOf, floorOf}
 use Rattle.model.specs.DbState.{Settings, State, asked, fresh, openOf}
 use Rattle.model.specs.DbInsert.{idOf, pairsOf, gainIn, absent, neighboursOf, joined, nearestFor, insertOf}
 use Rattle.model.specs.DbCluster.{isStrong, isDense, clusterOf}
@@ -68,6 +69,9 @@ pub record LabelsTellFamilies (s : State) : Type 0 where
   pub families :
       (i j : ℕ) (m n : DbMicro) (k l : ℤ) → At (s .micros) i m → At (s .micros) j n → At (s .labels) i k → At (s .labels) j l →
       (k ≡ l) ↔ OneFamily s m n
+  -- "Labels count from 0 by first member, −1 otherwise.": a label is −1 or a count, and each smaller count stands before it
+  pub counts : (i : ℕ) (k : ℤ) → At (s .labels) i k → (k ≡ negsuc 0) ⊎ ((c : ℕ) × (k ≡ pos c))
+  pub fromZero : (i c m : ℕ) → At (s .labels) i (pos c) → m < c → (j : ℕ) × (j < i) × At (s .labels) j (pos m)
 
 -- ---- two DBSTREAMs
 -- alike in dim, r and lambda; the second's min_weight and rounded alpha × min_weight are no larger
@@ -165,6 +169,10 @@ seen p xs = seenFrom insertOf nearestFor 0 (fresh p) xs
 
 -- of one stream, after any list of inserts
 pub record OneStream (p : Settings) (xs : List (List Float)) : Type 0 where
+  -- the settings are the opened ones, and t_gap and floor are theirs: so the labels go by the opening's thresholds
+  pub settings : after p xs .settings ≡ p
+  pub tGap : after p xs .tGap ≡ tGapOf (p .lambda)
+  pub floor : after p xs .floor ≡ floorOf (p .lambda)
   pub labels : LabelsTellFamilies (clusterOf (after p xs))
   pub holdings : FromFresh (acceptedIn (told p xs)) (after p xs)
   pub figures : Figures (acceptedIn (told p xs)) (after p xs)

@@ -4,7 +4,7 @@ use mathlib.Core.Path.{_≡_}
 use mathlib.Core.Logic.{_↔_, _⊎_, _≢_}
 use mathlib.Core.Bool.{true, false}
 use mathlib.Core.List.{List, [], map}
-use lib.IntN.{ℤ, negsuc}
+use lib.IntN.{ℤ, pos, negsuc}
 use lib.ListN.{length, getD}
 use lib.Ieee.{Float, le}
 use Rattle.float.specs.Rounded.{nought, whole}
@@ -19,7 +19,7 @@ use Rattle.model.specs.declared.answers.Insertion.{Insertion}
 use Rattle.model.specs.declared.answers.Insertion.the-variants.{Done}
 use Rattle.model.specs.Limits.{microsMost}
 use Rattle.model.specs.Run.{runOf, answersOf, acceptedIn}
-use Rattle.model.specs.DenState.{Settings, State, asked, fresh, openOf}
+use Rattle.model.specs.DenState.{Settings, State, paramsOf, asked, fresh, openOf}
 use Rattle.model.specs.DenInsert.{nearestFor, insertOf}
 use Rattle.model.specs.DenCluster.{close, fadedWeights, clusterOf}
 use Rattle.claims.specs.Lists.{Each}
@@ -64,6 +64,9 @@ pub record LabelsTellGroups (s : State) : Type 0 where
   pub groups :
       (i j : ℕ) (v u : Float) → i < length (s .potential) → j < length (s .potential) → Weighs s i v → Weighs s j u →
       (label s i ≡ label s j) ↔ ((UnderMu s v × UnderMu s u) ⊎ OneGroup s i j)
+  -- "Labels count from 0 by first member, −1 otherwise.": a label is −1 or a count, and each smaller count stands before it
+  pub counts : (i : ℕ) → i < length (s .potential) → (label s i ≡ negsuc 0) ⊎ ((c : ℕ) × (label s i ≡ pos c))
+  pub fromZero : (i c m : ℕ) → i < length (s .potential) → label s i ≡ pos c → m < c → (j : ℕ) × (j < i) × (label s j ≡ pos m)
 
 -- ---- a stream from fresh, after n accepted inserts
 pub record FromFresh (n : ℕ) (s : State) : Type 0 where
@@ -101,6 +104,8 @@ seen p xs = seenFrom insertOf nearestFor 0 (fresh p) xs
 
 -- of one stream, after any list of inserts
 pub record OneStream (p : Settings) (xs : List (List Float)) : Type 0 where
+  -- dim, eps × eps, lambda, bm, mu and tp are those of the opening: so the labels go by its thresholds
+  pub params : after p xs .params ≡ paramsOf p
   pub labels : LabelsTellGroups (clusterOf (after p xs))
   pub holdings : FromFresh (acceptedIn (told p xs)) (after p xs)
   pub figures : Figures (acceptedIn (told p xs)) (after p xs)

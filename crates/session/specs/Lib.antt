@@ -1,7 +1,10 @@
 pub mod Points
+pub mod PointLaws
 pub mod Whole
 pub mod Going
 pub mod Cases
 pub mod DbTold
 pub mod DenTold
 pub mod Demand3
+pub mod DbRuns
+pub mod DenRuns

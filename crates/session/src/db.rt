@@ -13,6 +13,7 @@ ghost use Rattle.model.specs.DbCluster.{clusterOf};
 ghost use Rattle.dbstream.specs.Stream.{view, settings};
 ghost use Rattle.session.specs.Points.{pointsOf};
 ghost use Rattle.session.specs.Whole.{sessionOf};
+ghost use Rattle.session.specs.DbRuns.{RunTold};
 ghost use Rattle.session.specs.DbTold.{told};
 
 // 0, or the number with which the run was refused, and the stream.
@@ -54,6 +55,7 @@ pub fn dbstream_session(
     numbers: &mut [u64],
 ) -> DbSession
     ensures { λ o. ⌜ told o (now (numbers .exit)) ≡ sessionOf insertOf clusterOf (openOf (settings dim r lambda alpha «min_weight»)) (pointsOf (now (lengths .entry)) (now (values .entry))) (now (numbers .entry)) ⌝ }
+    ensures demand { λ o. ⌜ (o .number ≡ 0 → RunTold (settings dim r lambda alpha «min_weight») (pointsOf (now (lengths .entry)) (now (values .entry))) (view (o .stream))) ⌝ }
 {
     let opened = DbStream::new(dim, r, lambda, alpha, min_weight);
     let stream = opened.stream;

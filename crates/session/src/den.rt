@@ -13,6 +13,7 @@ ghost use Rattle.model.specs.DenCluster.{clusterOf};
 ghost use Rattle.denstream.specs.View.{view};
 ghost use Rattle.session.specs.Points.{pointsOf};
 ghost use Rattle.session.specs.Whole.{sessionOf};
+ghost use Rattle.session.specs.DenRuns.{RunTold};
 ghost use Rattle.session.specs.DenTold.{settings, told};
 
 // 0, or the number with which the run was refused, and the stream.
@@ -54,6 +55,7 @@ pub fn denstream_session(
     numbers: &mut [u64],
 ) -> DenSession
     ensures { λ o. ⌜ told o (now (numbers .exit)) ≡ sessionOf insertOf clusterOf (openOf (settings dim eps lambda beta mu)) (pointsOf (now (lengths .entry)) (now (values .entry))) (now (numbers .entry)) ⌝ }
+    ensures demand { λ o. ⌜ (o .number ≡ 0 → RunTold (settings dim eps lambda beta mu) (pointsOf (now (lengths .entry)) (now (values .entry))) (view (o .stream))) ⌝ }
 {
     let opened = DenStream::new(dim, eps, lambda, beta, mu);
     let stream = opened.stream;
