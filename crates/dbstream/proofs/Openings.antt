@@ -14,7 +14,10 @@ use Rattle.feature.specs.Feature.{maxDim}
 use Rattle.drift.specs.Monitor.{Monitor, newOf}
 use Rattle.model.specs.declared.answers.Opening.{Opening}
 use Rattle.model.specs.declared.answers.Opening.the-variants.{Dim}
-use Rattle.model.specs.Answers.{isOpen}
+use Rattle.model.specs.Answers.{openingNumber, isOpen}
+use Rattle.model.specs.Numbers.{dbOpeningNo}
+use Rattle.model.specs.NumberLaws.{db-opening-said}
+use Rattle.model.specs.Outcome.{Opened}
 use Rattle.model.specs.Periods.{tGapOf, floorOf}
 use Rattle.model.specs.DbState.{Settings, State, fresh, asked, unopened, openOf}
 use Rattle.dbstream.specs.Stream.{settings}
@@ -54,3 +57,7 @@ module _ (dim : ℕ) (r lambda alpha weight : Float) (a : Opening) (e : a ≡ as
   stays-shut s t es =
       let u : isOpen (asked (settings dim r lambda alpha weight)) ≡ false = ap isOpen (sym e) ∙ t in
       rw (es, e, u)
+
+-- both clauses of an opening, from the first
+pub both : (p : Settings) (o : Opened State) → o ≡ openOf p → (o ≡ openOf p) × (openingNumber (o .answer) ≡ dbOpeningNo (p .dim) (p .r) (p .lambda) (p .alpha) (p .minWeight))
+both p o e = (e, db-opening-said p o e)

@@ -9,11 +9,11 @@ ghost use Prim.Native.Nat.{_≤_};
 ghost use mathlib.Core.Path.{_≡_};
 ghost use mathlib.Core.Logic.{_≢_};
 ghost use mathlib.Core.Bool.{false, cond};
-ghost use mathlib.Core.List.{[], _∷_};
 ghost use lib.ListN.{length, take};
 ghost use Rattle.model.specs.Limits.{microsMost};
-ghost use Rattle.model.specs.Answers.{insertionNumber, insertionValues};
-ghost use Rattle.model.specs.DbInsert.{tickOf, insertOf};
+ghost use Rattle.model.specs.Answers.{insertionNumber};
+ghost use Rattle.model.specs.Numbers.{insertionNo, insertionSaid};
+ghost use Rattle.model.specs.DbInsert.{tickOf, hasPlace, insertOf};
 ghost use Rattle.dbstream.specs.Stream.{view, insertedTold};
 ghost use Rattle.dbstream.specs.Placed.{placedBy};
 
@@ -73,7 +73,7 @@ impl DbStream {
     pub fn try_insert(self, x: &[f64]) -> Inserted
         ensures { λ r. ⌜ insertedTold r ≡ insertOf (view self) (now (x .entry)) ⌝ }
         ensures kept { λ r. ⌜ (insertionNumber (r .answer) ≢ 0 → r .stream ≡ self) ⌝ }
-        ensures shape { λ r. ⌜ (insertionNumber (r .answer) ≡ 7 → insertionValues (r .answer) ≡ view self .settings .dim ∷ length (now (x .entry)) ∷ []) ⌝ }
+        ensures said { λ r. ⌜ insertionSaid (r .answer) ≡ insertionNo (view self .settings .dim) (length (now (x .entry))) (self .t) (hasPlace (view self) (now (x .entry))) ⌝ }
     {
         let dim = lists::cut(self.dim, MAX_DIM);
         let n = self.count;

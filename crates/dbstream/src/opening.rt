@@ -11,6 +11,8 @@ use model::Opening;
 ghost use mathlib.Core.Path.{_≡_};
 ghost use Prim.Native.Nat.{min};
 ghost use Rattle.feature.specs.Feature.{maxDim};
+ghost use Rattle.model.specs.Answers.{openingNumber};
+ghost use Rattle.model.specs.Numbers.{dbOpeningNo};
 ghost use Rattle.model.specs.DbState.{fresh, openOf};
 ghost use Rattle.dbstream.specs.Stream.{view, settings, openedTold};
 
@@ -62,6 +64,7 @@ impl DbStream {
 
     pub fn new(dim: usize, r: f64, lambda: f64, alpha: f64, min_weight: f64) -> Opened
         ensures { λ o. ⌜ openedTold o ≡ openOf (settings dim r lambda alpha «min_weight») ⌝ }
+        ensures said { λ o. ⌜ openingNumber (o .answer) ≡ dbOpeningNo dim r lambda alpha «min_weight» ⌝ }
     {
         let answer = model::asked(dim, r, lambda, alpha, min_weight);
         if answer.is_open() {

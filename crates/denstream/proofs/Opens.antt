@@ -11,7 +11,9 @@ use Rattle.float.specs.Rounded.{one}
 use Rattle.feature.specs.Feature.{maxDim}
 use Rattle.model.specs.declared.answers.Opening.{Opening}
 use Rattle.model.specs.declared.answers.Opening.the-variants.{Open, Dim, BetaMu}
-use Rattle.model.specs.Answers.{isOpen}
+use Rattle.model.specs.Answers.{openingNumber, isOpen}
+use Rattle.model.specs.Numbers.{denOpeningNo}
+use Rattle.model.specs.NumberLaws.{den-opening-said}
 use Rattle.model.specs.Questions.{firstNo, questions, dimInRange}
 use Rattle.model.specs.Periods.{bmOf}
 use Rattle.model.specs.Outcome.{Opened}
@@ -61,16 +63,16 @@ module _ (g : Settings) (a : Opening) (e : a ≡ firstNo (questions (g .dim) (g 
       ap (λ (b : Bool). cond b Open BetaMu) (sym k) ∙ sym (all-open last qs (refl, (refl, (refl, (refl, (refl, tt))))) (ap isOpen (sym e) ∙ h))
 
 -- ---- a stream that opens has at most 15 coordinates
-both : (a b : Bool) → (a && b) ≡ true → b ≡ true
-both true b e = e
-both false b e = let z : _≡_ {A = ℕ} 0 1 = cc in absurd (omega arith)
+second : (a b : Bool) → (a && b) ≡ true → b ≡ true
+second true b e = e
+second false b e = let z : _≡_ {A = ℕ} 0 1 = cc in absurd (omega arith)
 
 open-dim : (g : Settings) → isOpen (asked g) ≡ true → g .dim ≤ maxDim
 unfolding asked
 open-dim g e = go (dimInRange (g .dim)) refl _ e
   where
     go : (t : Bool) → dimInRange (g .dim) ≡ t → (rest : Opening) → isOpen (cond (dimInRange (g .dim)) rest Dim) ≡ true → g .dim ≤ 15
-    go true q rest h = leb-true (g .dim) 15 (both (leb 1 (g .dim)) (leb (g .dim) 15) q)
+    go true q rest h = leb-true (g .dim) 15 (second (leb 1 (g .dim)) (leb (g .dim) 15) q)
     go false q rest h =
         let z : _≡_ {A = Bool} false true = ap (λ (t : Bool). isOpen (cond t rest Dim)) (sym q) ∙ h in
         let y : _≡_ {A = ℕ} 0 1 = cc in
@@ -95,3 +97,7 @@ module _ (g : Settings) (a : Opening) (v : State) (e : a ≡ asked g) where
   pub refused-told : isOpen a ≡ false → v ≡ unopened → _≡_ {A = Opened State} (record { answer = a; stream = v }) (openOf g)
   refused-told t s =
       ap₂ as-opened e s ∙ ap (λ (b : Bool). as-opened (asked g) (cond b (fresh g) unopened)) (sym (open-is false t))
+
+-- both clauses of an opening, from the first
+pub both : (g : Settings) (o : Opened State) → o ≡ openOf g → (o ≡ openOf g) × (openingNumber (o .answer) ≡ denOpeningNo (g .dim) (g .eps) (g .lambda) (g .beta) (g .mu))
+both g o e = (e, den-opening-said g o e)

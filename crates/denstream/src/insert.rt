@@ -8,10 +8,10 @@ use placement::Target;
 ghost use mathlib.Core.Path.{_≡_};
 ghost use mathlib.Core.Logic.{_≢_};
 ghost use mathlib.Core.Bool.{true, false, cond};
-ghost use mathlib.Core.List.{[], _∷_};
 ghost use lib.ListN.{length};
-ghost use Rattle.model.specs.Answers.{insertionNumber, insertionValues};
-ghost use Rattle.model.specs.DenInsert.{tickOf, insertOf};
+ghost use Rattle.model.specs.Answers.{insertionNumber};
+ghost use Rattle.model.specs.Numbers.{insertionNo, insertionSaid};
+ghost use Rattle.model.specs.DenInsert.{tickOf, hasPlace, insertOf};
 ghost use Rattle.pool.specs.Held.{microIn};
 ghost use Rattle.placement.specs.Placing.{takes, pooledAt, Ready};
 ghost use Rattle.denstream.specs.View.{view, told};
@@ -80,7 +80,7 @@ impl DenStream {
     pub fn try_insert(self, x: &[f64]) -> Inserted
         ensures { λ r. ⌜ told r ≡ insertOf (view self) (now (x .entry)) ⌝ }
         ensures kept { λ r. ⌜ (insertionNumber (r .answer) ≢ 0 → r .stream ≡ self) ⌝ }
-        ensures shape { λ r. ⌜ (insertionNumber (r .answer) ≡ 7 → insertionValues (r .answer) ≡ view self .params .dim ∷ length (now (x .entry)) ∷ []) ⌝ }
+        ensures said { λ r. ⌜ insertionSaid (r .answer) ≡ insertionNo (view self .params .dim) (length (now (x .entry))) (view self .t) (hasPlace (view self) (now (x .entry))) ⌝ }
     {
         let params = self.params;
         let dim = lists::cut(params.dim, MAX_DIM);

@@ -9,6 +9,8 @@ use model::Params;
 ghost use Prim.Native.Nat.{min};
 ghost use mathlib.Core.Path.{_≡_};
 ghost use Rattle.feature.specs.Feature.{maxDim};
+ghost use Rattle.model.specs.Answers.{openingNumber};
+ghost use Rattle.model.specs.Numbers.{denOpeningNo};
 ghost use Rattle.model.specs.DenState.{openOf};
 ghost use Rattle.model.specs.DenState as doc;
 ghost use Rattle.denstream.specs.View.{view, openedTold};
@@ -36,6 +38,7 @@ fn asked(dim: usize, eps: f64, lambda: f64, beta: f64, mu: f64) -> Opening
 impl DenStream {
     pub fn new(dim: usize, eps: f64, lambda: f64, beta: f64, mu: f64) -> Opened
         ensures { λ r. ⌜ openedTold r ≡ openOf (record { dim = dim; eps = eps; lambda = lambda; beta = beta; mu = mu }) ⌝ }
+        ensures said { λ r. ⌜ openingNumber (r .answer) ≡ denOpeningNo dim eps lambda beta mu ⌝ }
     {
         let answer = asked(dim, eps, lambda, beta, mu);
         if answer.is_open() {

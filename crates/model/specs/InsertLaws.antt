@@ -5,7 +5,7 @@ use native.Mathlib.Decide.{ℕ-discrete}
 use mathlib.Core.Path.{_≡_, refl, sym, ap, _∙_}
 use mathlib.Core.Logic.{_≢_, by-cases}
 use mathlib.Core.Bool.{Bool, true, false, cond, true≢false}
-use mathlib.Core.List.{List, [], _∷_}
+use mathlib.Core.List.{List}
 use borrow.Author.Tests.{ne-eqb}
 use lib.Dec.{eqb}
 use lib.Ieee.{Float, lt}
@@ -15,7 +15,7 @@ use Rattle.feature.specs.Feature.{maxDim}
 use Rattle.model.specs.declared.answers.Insertion.{Insertion}
 use Rattle.model.specs.declared.answers.Insertion.the-variants.{Done, Shape, ClockAtLimit, NoPlace}
 use Rattle.model.specs.Limits.{clockLimit}
-use Rattle.model.specs.Answers.{insertionNumber, insertionValues, isDone}
+use Rattle.model.specs.Answers.{insertionNumber, isDone}
 use Rattle.model.specs.Questions.{insertionAsked}
 use Rattle.model.specs.Outcome.{Outcome, outcome}
 
@@ -73,16 +73,6 @@ inserted-by {S} dim got t p q came taken w v a b same ea eb ev ew =
 -- a refused stream is the one that came
 pub given-back : {S : Type 0} (a : Insertion) (b : Bool) (r came : S) → b ≡ isDone a → (b ≡ false → r ≡ came) → insertionNumber a ≢ 0 → r ≡ came
 given-back a b r came h same refusal = same (h ∙ ne-eqb (insertionNumber a) 0 refusal)
-
--- a point of another length is refused with the length expected and the one got
-pub shape-said : (dim got : ℕ) (t : Float) (p : Bool) (a : Insertion) → a ≡ insertionAsked dim got t p → insertionNumber a ≡ 7 → insertionValues a ≡ dim ∷ got ∷ []
-shape-said dim got t p a e seven = ap insertionValues e ∙ go (eqb got dim) (lt t clockLimit) p (ap insertionNumber (sym e) ∙ seven)
-  where
-    go : (u v q : Bool) → insertionNumber (cond u (cond v (cond q Done NoPlace) ClockAtLimit) (Shape dim got)) ≡ 7 → insertionValues (cond u (cond v (cond q Done NoPlace) ClockAtLimit) (Shape dim got)) ≡ dim ∷ got ∷ []
-    go false v q h = refl
-    go true false q h = absurd (omega arith)
-    go true true false h = absurd (omega arith)
-    go true true true h = absurd (omega arith)
 
 -- what becomes of a stream goes by whether the point is taken
 pub when-done : {S : Type 0} (b : Bool) (taken came : S) → b ≡ true → taken ≡ cond b taken came

@@ -9,6 +9,7 @@ pub mod Periods
 pub mod Nearest
 pub mod Families
 pub mod ReadOut
+pub mod Numbers
 pub mod Outcome
 pub mod InsertLaws
 pub mod Run
@@ -18,4 +19,5 @@ pub mod DbCluster
 pub mod DenState
 pub mod DenInsert
 pub mod DenCluster
+pub mod NumberLaws
 pub mod Readings

@@ -1,7 +1,7 @@
 use mathlib.Core.Path.{sym, _∙_}
 use Rattle.model.specs.DbState.{asked}
-use Rattle.dbstream.specs.Stream.{view}
-use Rattle.dbstream.proofs.Openings.{opens, stays-shut}
+use Rattle.dbstream.specs.Stream.{view, settings}
+use Rattle.dbstream.proofs.Openings.{opens, stays-shut, both}
 use borrow.Author.Needs.{needs}
 use Rattle.dbstream.proofs.DbStream.new.Statement.{statement}
 use Rattle.dbstream.proofs.DbStream.new.Tie as tie
@@ -19,7 +19,8 @@ returns : tie.Need-returns
 unfolding asked
 returns c =
     let a = c .before .before .before .before .args in
-    opens (a .dim) (a .r) (a .lambda) (a .alpha) (a .«min-weight») (c .before .before .before .asked .result) (c .before .before .before .asked .ensures) (view (c .fresh .result)) (sym (c .before .before .«is-open» .ensures) ∙ c .before .if1 .taken) (c .fresh .ensures)
+    both (settings (a .dim) (a .r) (a .lambda) (a .alpha) (a .«min-weight»)) _
+    (opens (a .dim) (a .r) (a .lambda) (a .alpha) (a .«min-weight») (c .before .before .before .asked .result) (c .before .before .before .asked .ensures) (view (c .fresh .result)) (sym (c .before .before .«is-open» .ensures) ∙ c .before .if1 .taken) (c .fresh .ensures))
 
 fresh-requires-2 : tie.Need-fresh-requires-2
 fresh-requires-2 c κs = search needs
@@ -28,7 +29,8 @@ returns-2 : tie.Need-returns-2
 unfolding asked
 returns-2 c =
     let a = c .before .before .before .before .args in
-    stays-shut (a .dim) (a .r) (a .lambda) (a .alpha) (a .«min-weight») (c .before .before .before .asked .result) (c .before .before .before .asked .ensures) (view (c .fresh2 .result)) (sym (c .before .before .«is-open» .ensures) ∙ c .before .if1 .left) (c .fresh2 .ensures)
+    both (settings (a .dim) (a .r) (a .lambda) (a .alpha) (a .«min-weight»)) _
+    (stays-shut (a .dim) (a .r) (a .lambda) (a .alpha) (a .«min-weight») (c .before .before .before .asked .result) (c .before .before .before .asked .ensures) (view (c .fresh2 .result)) (sym (c .before .before .«is-open» .ensures) ∙ c .before .if1 .left) (c .fresh2 .ensures))
 
 pub new-spec : {M : Type 1} → statement M
 new-spec =

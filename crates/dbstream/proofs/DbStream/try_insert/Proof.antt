@@ -1,9 +1,9 @@
-use Prim.Native.Nat.{ℕ}
-use mathlib.Core.Path.{sym, ap, _∙_}
-use mathlib.Core.List.{[], _∷_}
+use mathlib.Core.Path.{sym, _∙_}
 use native.Mathlib.Omega.{arith}
-use lib.ListN.{length, take, length-map}
-use Rattle.model.specs.InsertLaws.{point-is, given-back, shape-said}
+use lib.ListN.{take, length-map}
+use Rattle.model.specs.InsertLaws.{point-is, given-back}
+use Rattle.model.specs.NumberLaws.{db-insertion-said}
+use Rattle.dbstream.specs.Stream.{view}
 use Rattle.dbstream.proofs.Inserts.{Met, inserted}
 use borrow.Author.Needs.{needs}
 use Rattle.dbstream.proofs.DbStream.try_insert.Statement.{statement}
@@ -52,14 +52,12 @@ returns : tie.Need-returns
 returns c =
     let e = c .before .before .before .before in
     let m = met e in
-    let d = e .before .before .before .cut in
     let place = c .before .before .before .has-place in
     let a = c .before .before .insertion-asked in
     let done = c .before .is-done in
-    let x = e .before .before .before .before .before .args .x .now in (
-      inserted m (a .result) (place .result) (place .ensures) (a .ensures) (done .result) _ (done .ensures) (c .taken .ensures .0),
-      (given-back (a .result) (done .result) _ _ (done .ensures) (c .taken .ensures .1), λ seven. shape-said (d .result) (length x) _ (place .result) (a .result) (a .ensures) seven ∙ ap (λ (q : ℕ). q ∷ length x ∷ []) (d .ensures)),
-    )
+    let g = e .before .before .before .before .before .args in
+    let told = inserted m (a .result) (place .result) (place .ensures) (a .ensures) (done .result) _ (done .ensures) (c .taken .ensures .0) in
+    (told, (given-back (a .result) (done .result) _ _ (done .ensures) (c .taken .ensures .1), db-insertion-said (view (g .self)) (g .x .now) _ told))
 
 pub try-insert-spec : {M : Type 1} → statement M
 try-insert-spec =

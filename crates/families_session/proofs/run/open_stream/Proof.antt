@@ -25,7 +25,7 @@ new-requires : tie.Need-new-requires
 new-requires c κs = search needs
 
 returns : tie.Need-returns
-returns c = c .new .ensures ∙ ap openOf (settings-are (c .before .before .before .before .before .before .before .args .bytes .now) _ _ _ _ _ (c .before .before .before .before .before .word-at .ensures) (c .before .before .before .before .double-at .ensures) (c .before .before .before .double-at2 .ensures) (c .before .before .double-at3 .ensures) (c .before .double-at4 .ensures))
+returns c = c .new .ensures .0 ∙ ap openOf (settings-are (c .before .before .before .before .before .before .before .args .bytes .now) _ _ _ _ _ (c .before .before .before .before .before .word-at .ensures) (c .before .before .before .before .double-at .ensures) (c .before .before .before .double-at2 .ensures) (c .before .before .double-at3 .ensures) (c .before .double-at4 .ensures))
 
 pub open-stream-spec : {M : Type 1} → statement M
 open-stream-spec =

@@ -37,7 +37,7 @@ returns c =
     both-told (settings (a .dim) (a .eps) (a .lambda) (a .beta) (a .mu)) (a .lengths .now) (a .values .now) (a .numbers .now) _
     (ap (λ (k : ℕ). session k (a .numbers .now) (view (o .result .stream))) (n .ensures)
     ∙ not-opened insertOf clusterOf (openedTold (o .result)) (a .lengths .now) (a .values .now) (a .numbers .now) (λ e. c .if1 .taken (n .ensures ∙ e))
-    ∙ ap (λ (x : Opened State). sessionOf insertOf clusterOf x (pointsOf (a .lengths .now) (a .values .now)) (a .numbers .now)) (o .ensures))
+    ∙ ap (λ (x : Opened State). sessionOf insertOf clusterOf x (pointsOf (a .lengths .now) (a .values .now)) (a .numbers .now)) (o .ensures .0))
 
 returns-2 : tie.Need-returns-2
 returns-2 c =
@@ -45,7 +45,7 @@ returns-2 c =
     let o = c .before .before .before .before .new in
     both-told (settings (a .dim) (a .eps) (a .lambda) (a .beta) (a .mu)) (a .lengths .now) (a .values .now) (a .numbers .now) _
     (too-short insertOf clusterOf (openedTold (o .result)) (a .lengths .now) (a .values .now) (a .numbers .now) (opens (c .before)) (c .if2 .taken)
-    ∙ ap (λ (x : Opened State). sessionOf insertOf clusterOf x (pointsOf (a .lengths .now) (a .values .now)) (a .numbers .now)) (o .ensures))
+    ∙ ap (λ (x : Opened State). sessionOf insertOf clusterOf x (pointsOf (a .lengths .now) (a .values .now)) (a .numbers .now)) (o .ensures .0))
 
 inserts-requires : tie.Need-inserts-requires
 inserts-requires c κs = search needs
@@ -64,7 +64,7 @@ returns-3 c =
     both-told (settings (a .dim) (a .eps) (a .lambda) (a .beta) (a .mu)) (a .lengths .now) (a .values .now) (a .numbers .now) _
     (ap (session 0 _) (c .cluster .ensures)
     ∙ ran insertOf clusterOf (openedTold (o .result)) (a .lengths .now) (a .values .now) (a .numbers .now) (opens (c .before .before .before .before .before .before)) (view (r .result)) _ (c .before .before .before .before .before .if2 .left) (r .ensures .0) (r .ensures .1)
-    ∙ ap (λ (x : Opened State). sessionOf insertOf clusterOf x (pointsOf (a .lengths .now) (a .values .now)) (a .numbers .now)) (o .ensures))
+    ∙ ap (λ (x : Opened State). sessionOf insertOf clusterOf x (pointsOf (a .lengths .now) (a .values .now)) (a .numbers .now)) (o .ensures .0))
 
 pub denstream-session-spec : {M : Type 1} → statement M
 denstream-session-spec =

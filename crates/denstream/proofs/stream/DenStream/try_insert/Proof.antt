@@ -1,14 +1,14 @@
 -- `DenStream::try_insert` meets its contract. Assumes nothing.
-use Prim.Native.Nat.{ℕ, min}
+use Prim.Native.Nat.{min}
 use mathlib.Core.Path.{ap, _∙_}
-use mathlib.Core.List.{[], _∷_}
 use native.Mathlib.Omega.{arith}
 use lib.ListN.{length, take}
 use borrow.Author.Needs.{needs}
 use Rattle.drift.specs.Monitor as monitor
 use Rattle.model.specs.Questions.{insertionAsked}
 use Rattle.denstream.specs.View.{view}
-use Rattle.model.specs.InsertLaws.{point-is, given-back, shape-said}
+use Rattle.model.specs.InsertLaws.{point-is, given-back}
+use Rattle.model.specs.NumberLaws.{den-insertion-said}
 use Rattle.denstream.proofs.Inserts.{Met, room, inserted}
 use Rattle.denstream.proofs.stream.DenStream.try_insert.Statement.{statement}
 use Rattle.denstream.proofs.stream.DenStream.try_insert.Tie as tie
@@ -58,11 +58,9 @@ returns c =
     let e = c .before .before in
     let m = met e in
     let done = c .before .is-done in
-    let d = e .before .before .before .before .before .before .cut in
-    let x = e .before .before .before .before .before .before .before .before .before .args .x .now in (
-      inserted m (done .result) (view (c .taken .result)) (done .ensures) (c .taken .ensures .0),
-      (given-back (e .insertion-asked .result) (done .result) (c .taken .result) _ (done .ensures) (c .taken .ensures .1), λ seven. shape-said (d .result) (length x) _ (e .before .takes .result) (e .insertion-asked .result) (e .insertion-asked .ensures) seven ∙ ap (λ (q : ℕ). q ∷ length x ∷ []) (d .ensures)),
-    )
+    let a = e .before .before .before .before .before .before .before .before .before .args in
+    let is = inserted m (done .result) (view (c .taken .result)) (done .ensures) (c .taken .ensures .0) in
+    (is, (given-back (e .insertion-asked .result) (done .result) (c .taken .result) _ (done .ensures) (c .taken .ensures .1), den-insertion-said (view (a .self)) (a .x .now) _ is))
 
 pub try-insert-spec : {M : Type 1} → statement M
 try-insert-spec =
