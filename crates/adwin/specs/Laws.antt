@@ -1,8 +1,8 @@
 -- The window's laws, for every list of values from a fresh window. Document 01, Drift: "All these are told from the history."
 use Prim.Native.Nat.{ℕ, _+_, _-_, _*_, _/_, _%_, _^_, _≤_, _<_, min}
-use mathlib.Core.Path.{_≡_, ap, _∙_}
+use mathlib.Core.Path.{_≡_, refl, sym, ap, _∙_}
 use mathlib.Core.Bool.{true, false, not, true≢false}
-use mathlib.Core.List.{List}
+use mathlib.Core.List.{List, [], _∷_}
 use native.Mathlib.Omega.{arith}
 use native.Mathlib.Nat.{min-eq-left, mul-div-cancel}
 use lib.Ieee.{Float, nan, inf, fin, up, down, toUnsigned}
@@ -13,11 +13,12 @@ use Rattle.float.specs.Rounded.{whole}
 use Rattle.float.specs.Order.{isFinite}
 use Rattle.float.specs.Whole.{Is, whole-is}
 use Rattle.adwin.specs.Settings.{cap, interval, limit, places}
-use Rattle.adwin.specs.Window.{Window, quiet, full, grown, shrunk, updateOf, isEmpty, newOf, widthOf}
-use Rattle.adwin.specs.History.{runOf, finiteIn, droppedBy, droppedIn, valuesIn, Sized, countOf, NeverRising}
-use Rattle.adwin.specs.Cases.{not-finite, no-room, not-due, is-due}
+use Rattle.adwin.specs.Buckets.{Classed}
+use Rattle.adwin.specs.Window.{Window, Outcome, quiet, full, hasRoom, grown, shrunk, updateOf, isEmpty, newOf, widthOf}
+use Rattle.adwin.specs.History.{runOf, finiteIn, droppedBy, droppedIn, valuesIn, Sized, countOf, Below, NeverRising}
+use Rattle.adwin.specs.Cases.{update-cases, not-finite, no-room, not-due, is-due}
 use Rattle.adwin.specs.Stacked.{at-most-cap, never-rises}
-use Rattle.adwin.specs.Merging.{small}
+use Rattle.adwin.specs.Merging.{class-low, small}
 use Rattle.adwin.specs.Sound.{Sound, sound-new, place-left, room-is, step, Run, run}
 
 -- the window w after the values xs
@@ -30,6 +31,8 @@ pub record Told (delta : Float) (xs : List Float) (w : Window) : Type 0 where
   -- "Over 6 in a class, the two oldest merge into the newest of the next."
   pub neverRising : NeverRising (w .held)
   pub atMostSix : (c : ℕ) → countOf c (w .held) ≤ cap
+  -- no class is above 15
+  pub classes : Below 15 (w .held)
   -- the places for buckets are never full
   pub neverFull : length (w .held) < places
   -- "The width equals values taken less the sizes dropped."
@@ -59,6 +62,20 @@ counts (fin false m e) n p h =
     let r : m * up e / down e ≡ n = ap (λ (i : ℕ). i / down e) q ∙ mul-div-cancel n (down-pos e) in
     ap (λ (i : ℕ). min i (2 ^ 64 - 1)) r ∙ min-eq-left (omega arith)
 
+-- a class of more than 15 would stand for more values than a window takes
+low-classes : (l : List Classed) → valuesIn l ≤ limit → Below 15 l
+low-classes [] h = tt
+low-classes (b ∷ l) h = (class-low (b .class) (omega arith), low-classes l (omega arith))
+
+room : (w : Window) → w .taken < limit → length (w .held) < places → hasRoom w ≡ true
+room w h k = rw (lt-ltb (w .taken) limit h, lt-ltb (length (w .held)) places k)
+
+-- a window that has taken fewer than 65,535 values, and whose places are not full, refuses none
+pub not-refused : (w : Window) (x : Float) → w .taken < limit → length (w .held) < places → updateOf w x .refusal ≡ 0
+unfolding shrunk
+not-refused w x h k =
+    update-cases w x (λ (o : Outcome) (l : List Classed). o .refusal ≡ 0) (λ e. refl) (λ e r. absurd (true≢false (sym (room w h k) ∙ r))) (λ e r i. refl) (λ e r i. refl)
+
 ran : (delta : Float) (xs : List Float) → Run (newOf delta) xs (runOf (newOf delta) xs)
 ran delta xs = run (newOf delta) xs (sound-new delta)
 
@@ -76,6 +93,7 @@ told-from-history delta xs =
       sums = s .width;
       neverRising = never-rises (w .held) (s .stacked);
       atMostSix = at-most-cap (w .held) (s .stacked);
+      classes = low-classes (w .held) b;
       neverFull = place-left w s;
       dropped = r .sized;
       width = omega (arith, r .values);

@@ -12,4 +12,5 @@ pub mod Merging
 pub mod Dropping
 pub mod Sound
 pub mod Laws
+pub mod NanDelta
 pub mod Readings

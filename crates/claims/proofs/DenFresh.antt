@@ -1,7 +1,7 @@
 -- A DenStream from fresh: its clock, its pools' places and its drift monitor, through every insert.
 use Prim.Native.Nat.{ℕ, _+_, _<_, _≤_}
 use mathlib.Core.Path.{_≡_, refl, sym, ap, _∙_, subst}
-use mathlib.Core.Logic.{_≢_}
+use mathlib.Core.Logic.{_≢_, inr}
 use mathlib.Core.Bool.{Bool, true, _||_}
 use mathlib.Core.List.{List, [], _∷_}
 use native.Mathlib.Omega.{arith}
@@ -12,10 +12,12 @@ use borrow.Author.Tests.{ltb-true}
 use Rattle.float.specs.Rounded.{_⊕_, one, whole}
 use Rattle.lists.specs.Sizes.{retain-length, without-length}
 use Rattle.drift.specs.declared.Nearest.{Nearest}
+use Rattle.drift.specs.declared.Nearest.the-variants.{Nothing}
 use Rattle.drift.specs.Monitor.{newOf, observeOf}
 use Rattle.drift.specs.History.{Seen, watchOf}
 use Rattle.model.specs.declared.answers.Insertion.the-variants.{Done}
 use Rattle.model.specs.Limits.{microsMost}
+use Rattle.model.specs.Nearest.{nearestOf}
 use Rattle.model.specs.Outcome.{Outcome}
 use Rattle.model.specs.Run.{oneIfDone, acceptedIn}
 use Rattle.model.specs.DenState.{Settings, State, paramsOf, fresh}
@@ -26,6 +28,7 @@ use Rattle.claims.specs.DenClaims.{FromFresh, after, told, seen}
 use Rattle.claims.proofs.Places.{at-below}
 use Rattle.claims.proofs.Clocks.{counts-insert, starts}
 use Rattle.claims.proofs.Runs.{run-keeps, run-watches, run-stays, one-watched}
+use Rattle.claims.proofs.Early.{Early, early-insert}
 use Rattle.claims.proofs.DenCases.{placed-cases, tick-cases, insert-cases}
 
 -- ---- the clock
@@ -105,3 +108,15 @@ watched n s x f l =
 
 pub drift-told : (p : Settings) (xs : List (List Float)) → after p xs .drift ≡ watchOf (newOf (p .eps)) (seen p xs)
 drift-told p xs = run-watches insertOf FromFresh fresh-insert (λ (u : State). u .drift) nearestFor watched xs 0 (fresh p) (is-fresh p)
+
+-- ---- the drift window takes fewer values than inserts were accepted
+early : (n : ℕ) (s : State) (x : List Float) → Early n (s .drift) (nearestFor s) → Early (n + oneIfDone (insertOf s x .answer)) (insertOf s x .stream .drift) (nearestFor (insertOf s x .stream))
+unfolding insertOf
+early n s x h = early-insert (λ (u : State). u .drift) nearestFor (s .params .dim) (s .t) (hasPlace s x) s (takenOf s x) x n (taken-drift s x) h
+
+none-near : (p : Settings) (x : List Float) → nearestFor (fresh p) x ≡ Nothing
+unfolding nearestFor nearestOf
+none-near p x = refl
+
+pub early-told : (p : Settings) (xs : List (List Float)) → Early (0 + acceptedIn (told p xs)) (after p xs .drift) (nearestFor (after p xs))
+early-told p xs = run-keeps insertOf (λ (n : ℕ) (s : State). Early n (s .drift) (nearestFor s)) early xs 0 (fresh p) (inr (refl, none-near p))

@@ -4,6 +4,7 @@ pub mod Places
 pub mod Cases
 pub mod Runs
 pub mod Counts
+pub mod Early
 pub mod Clocks
 pub mod Means
 pub mod Weight

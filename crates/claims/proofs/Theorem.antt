@@ -2,15 +2,19 @@
 use Prim.Native.Nat.{_+_, _≤_}
 use mathlib.Core.Path.{sym, ap, subst}
 use native.Mathlib.Omega.{arith}
+use mathlib.Core.List.{List}
+use lib.Ieee.{Float}
 use lib.ListN.{length}
 use Rattle.drift.specs.Laws.{Heard, heard-from-history}
 use Rattle.model.specs.declared.answers.Opening.{Opening}
-use Rattle.model.specs.Limits.{microsMost}
+use Rattle.model.specs.Limits.{microsMost, clockMost}
+use Rattle.model.specs.Run.{acceptedIn}
 use Rattle.model.specs.Outcome.{opened}
 use Rattle.model.specs.DbState as db
 use Rattle.model.specs.DenState as den
 use Rattle.claims.specs.DbClaims as db-claim
 use Rattle.claims.specs.DenClaims as den-claim
+use Rattle.claims.proofs.Early.{window-takes}
 use Rattle.claims.proofs.DbSettings as db-set
 use Rattle.claims.proofs.DbFresh as db-fresh
 use Rattle.claims.proofs.DbFigures as db-figures
@@ -23,6 +27,12 @@ use Rattle.claims.proofs.DbTogether.{stay-together}
 use Rattle.claims.proofs.DenFresh as den-fresh
 use Rattle.claims.proofs.DenFigures as den-figures
 use Rattle.claims.proofs.DenLabels.{groups-told}
+
+db-heard : (p : db.Settings) (xs : List (List Float)) → Heard (p .r) (db-claim.seen p xs) (db-claim.after p xs .drift)
+db-heard p xs = subst (Heard (p .r) (db-claim.seen p xs)) (sym (db-drift.drift-told p xs)) (heard-from-history (p .r) (db-claim.seen p xs))
+
+den-heard : (p : den.Settings) (xs : List (List Float)) → Heard (p .eps) (den-claim.seen p xs) (den-claim.after p xs .drift)
+den-heard p xs = subst (Heard (p .eps) (den-claim.seen p xs)) (sym (den-fresh.drift-told p xs)) (heard-from-history (p .eps) (den-claim.seen p xs))
 
 pub dbstream : db-claim.Demand3
 dbstream =
@@ -37,7 +47,8 @@ dbstream =
         fits = fits p xs;
         neverReused = never-reused p xs;
         drift = db-drift.drift-told p xs;
-        report = subst (Heard (p .r) (db-claim.seen p xs)) (sym (db-drift.drift-told p xs)) (heard-from-history (p .r) (db-claim.seen p xs));
+        report = db-heard p xs;
+        window = window-takes _ _ _ (p .r) (db-claim.seen p xs) (let h : acceptedIn (db-claim.told p xs) ≤ clockMost = db-fresh.from-fresh p xs .clock .limit in omega arith) (db-drift.early-told p xs) (db-heard p xs);
       };
       two = λ p q opens opens′ laxer xs. record {
         refusals = same-refusals p q laxer xs;
@@ -58,7 +69,8 @@ denstream =
         holdings = den-fresh.from-fresh p xs;
         figures = den-figures.figures p xs;
         drift = den-fresh.drift-told p xs;
-        report = subst (Heard (p .eps) (den-claim.seen p xs)) (sym (den-fresh.drift-told p xs)) (heard-from-history (p .eps) (den-claim.seen p xs));
+        report = den-heard p xs;
+        window = window-takes _ _ _ (p .eps) (den-claim.seen p xs) (let h : acceptedIn (den-claim.told p xs) ≤ clockMost = den-fresh.from-fresh p xs .clock .limit in omega arith) (den-fresh.early-told p xs) (den-heard p xs);
       };
       opened = λ p e. ap (λ (a : Opening). opened a (den.fresh p) den.unopened .stream) e;
       refused = den-fresh.refused-nothing;

@@ -10,6 +10,7 @@ use lib.ListN.{length}
 use lib.Ieee.{Float, le}
 use Rattle.float.specs.Rounded.{_⊗_, one, whole}
 use Rattle.union_find.specs.Pairs.{Chain}
+use Rattle.adwin.specs.Window.{updateOf}
 use Rattle.drift.specs.Monitor.{newOf}
 use Rattle.drift.specs.History.{Seen, watchOf}
 use Rattle.drift.specs.Laws.{Heard}
@@ -185,6 +186,8 @@ pub record OneStream (p : Settings) (xs : List (List Float)) : Type 0 where
   pub drift : after p xs .drift ≡ watchOf (newOf (p .r)) (seen p xs)
   -- so its report is told from them: the alarms, the last one's tick, and the window of the values seen
   pub report : Heard (p .r) (seen p xs) (after p xs .drift)
+  -- and whose window has room for any value: no insert meets the window's refusal 8
+  pub window : (v : Float) → updateOf (after p xs .drift .window) v .refusal ≡ 0
 
 -- of two streams, the second's bounds no larger, after the same list
 pub record TwoStreams (p q : Settings) (xs : List (List Float)) : Type 0 where

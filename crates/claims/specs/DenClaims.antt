@@ -10,6 +10,7 @@ use lib.Ieee.{Float, le}
 use Rattle.float.specs.Rounded.{nought, whole}
 use Rattle.union_find.specs.Pairs.{Chain}
 use Rattle.labels.specs.Group.{Summed}
+use Rattle.adwin.specs.Window.{updateOf}
 use Rattle.drift.specs.Monitor.{newOf}
 use Rattle.drift.specs.History.{Seen, watchOf}
 use Rattle.drift.specs.Laws.{Heard}
@@ -113,6 +114,8 @@ pub record OneStream (p : Settings) (xs : List (List Float)) : Type 0 where
   pub drift : after p xs .drift ≡ watchOf (newOf (p .eps)) (seen p xs)
   -- so its report is told from them: the alarms, the last one's tick, and the window of the values seen
   pub report : Heard (p .eps) (seen p xs) (after p xs .drift)
+  -- and whose window has room for any value: no insert meets the window's refusal 8
+  pub window : (v : Float) → updateOf (after p xs .drift .window) v .refusal ≡ 0
 
 pub record Demand3 : Type 0 where
   pub one : (p : Settings) → Opens p → (xs : List (List Float)) → OneStream p xs
