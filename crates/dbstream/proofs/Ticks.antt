@@ -1,21 +1,21 @@
 -- The stream that an insert leaves, from what the links' loop, the clock and the cleanup give. Assumes nothing.
 use Prim.Native.Nat.{ℕ}
 use mathlib.Core.Path.{_≡_, refl, sym, ap, ap₂, _∙_}
-use mathlib.Core.List.{List, [], map, map-map, foldl}
+use mathlib.Core.List.{List, map, map-map, foldl}
 use mathlib.Core.Bool.{Bool, true, false, cond}
 use lib.Ieee.{Float}
 use lib.ListN.{take}
-use Rattle.float.specs.Rounded.{_⊕_, one}
+use Rattle.float.specs.Rounded.{one}
 use Rattle.lists.specs.Retain.{retain}
 use Rattle.lists.specs.Maps.{map-retain}
 use Rattle.drift.specs.declared.Nearest.{Nearest}
 use Rattle.drift.specs.declared.DriftMonitor.{DriftMonitor}
-use Rattle.drift.specs.Monitor as drift
-use Rattle.drift.specs.Monitor.{Monitor, observeOf}
+use Rattle.drift.specs.Monitor.{Monitor}
 use Rattle.model.specs.declared.micro.MicroId.{MicroId}
 use Rattle.model.specs.declared.micro.DbMicro.{DbMicro}
 use Rattle.model.specs.declared.link.Link.{Link}
-use Rattle.model.specs.Fading.{isMultiple}
+use Rattle.model.specs.declared.clock.Ticked.{Ticked}
+use Rattle.model.specs.Ticking.{Ticks}
 use Rattle.model.specs.DbState.{State}
 use Rattle.model.specs.DbInsert.{idOf, pairsOf, gainOf, microStays, linkStays, cleanup, beat, tickOf}
 use Rattle.neighbours.specs.declared.scan.Scan.{Scan}
@@ -24,7 +24,7 @@ use Rattle.neighbours.specs.Placing.{placedAmong, nextAfter}
 use Rattle.link.specs.Among.{staysAmong, retain-among}
 use Rattle.dbstream.specs.declared.DbStream.{DbStream}
 use Rattle.dbstream.specs.Stream.{view, dimOf}
-use Rattle.dbstream.specs.Placed.{placedBy}
+use Rattle.dbstream.specs.Placed.{changed, microsBy, placedBy}
 
 -- ---- the cleanup
 module _ (s : DbStream) (n : ℕ) (ms : List DbMicro) (ids : List MicroId) (k : ℕ) (ls : List Link) where
@@ -102,45 +102,47 @@ linked-next s u ls h = record { rest = ap (λ (v : DbStream). withLinks v ls) (h
 abbrev pub goal : DbStream → (lambda t : Float) → List MicroId → ℕ → List Link
 goal s lambda t ids k = foldl (gainOf lambda t) (take (s .«link_count») (s .links)) (pairsOf (take k ids))
 
--- u is s with the point in its micro-clusters and with the loop's links, of which n are held; m and time are the clock's
-module _ (s : DbStream) (f : Scan) (x : List Float) (near : Nearest) (next : MicroId) (ms : List DbMicro) (count : ℕ) (u : DbStream) (n : ℕ) (time : Float) (m : DriftMonitor) where
-  pub beaten :
+-- u is s with the point in its micro-clusters and with the loop's links, of which n are held: it is document 01's before the tick
+module _ (s : DbStream) (f : Scan) (x : List Float) (next : MicroId) (ms : List DbMicro) (count : ℕ) (u : DbStream) (n : ℕ) where
+  pub placed-is :
       take count ms ≡ placedAmong f (s .r) (s .lambda) (s .t) (s .«next_id») x (s .count) (take (s .count) (s .micros)) → next ≡ nextAfter f (s .count) (s .«next_id») →
-      u ≡ withLinks (withMicros s next ms count) (u .links) → take n (u .links) ≡ goal s (s .lambda) (s .t) (f .ids) (f .count) → time ≡ s .t ⊕ one → drift.view m ≡ observeOf (drift.view (s .drift)) near (s .t) →
-      view (having u (u .«next_id») (u .micros) (u .count) (u .links) n 0 time m) ≡ beat (placedBy s f x) near
-  beaten placed numbered is gained later seen =
-      ap (λ (v : DbStream). view (having v (v .«next_id») (v .micros) (v .count) (u .links) n 0 time m)) is
-      ∙ ap (λ (ls : List Link). at next (held (dimOf s) count ms) ls time (drift.view m)) gained
-      ∙ ap (λ (l : List DbMicro). at next (map (cutTo (dimOf s)) l) links time (drift.view m)) placed
-      ∙ ap (λ (q : MicroId). at q micros links time (drift.view m)) numbered
-      ∙ ap₂ (at (nextAfter f (s .count) (s .«next_id»)) micros links) later seen
+      u ≡ withLinks (withMicros s next ms count) (u .links) → take n (u .links) ≡ goal s (s .lambda) (s .t) (f .ids) (f .count) →
+      view (having u (u .«next_id») (u .micros) (u .count) (u .links) n 0 (u .t) (u .drift)) ≡ placedBy s f x
+  placed-is placed numbered is gained =
+      ap (λ (v : DbStream). view (having v (v .«next_id») (v .micros) (v .count) (u .links) n 0 (v .t) (v .drift))) is
+      ∙ ap (λ (ls : List Link). changed s next (held (dimOf s) count ms) ls) gained
+      ∙ ap (λ (l : List DbMicro). changed s next (map (cutTo (dimOf s)) l) links) placed
+      ∙ ap (λ (q : MicroId). changed s q (microsBy s f x) links) numbered
     where
       links : List Link
       links = goal s (s .lambda) (s .t) (f .ids) (f .count)
 
-      micros : List DbMicro
-      micros = map (cutTo (dimOf s)) (placedAmong f (s .r) (s .lambda) (s .t) (s .«next_id») x (s .count) (take (s .count) (s .micros)))
+-- ---- the tick: what the clock r tells, then the cleanup where one is due
+module _ (s : DbStream) (near : Nearest) (r : Ticked) (told : Ticks (record { t = s .t; period = s .«t_gap»; drift = s .drift }) near r) where
+  abbrev later : DbStream
+  later = having s (s .«next_id») (s .micros) (s .count) (s .links) (s .«link_count») (s .«label_count») (r .t) (r .drift)
 
-      at : MicroId → List DbMicro → List Link → Float → Monitor → State
-      at number held bound t monitor =
+  beaten : view later ≡ beat (view s) near
+  beaten = ap₂ at (told .later) (told .seen)
+    where
+      at : Float → Monitor → State
+      at t monitor =
           record {
             settings = view s .settings;
             tGap = s .«t_gap»;
             floor = s .floor;
             t = t;
-            next = number .0;
-            micros = held;
-            links = bound;
-            labels = [];
+            next = view s .next;
+            micros = view s .micros;
+            links = view s .links;
+            labels = view s .labels;
             drift = monitor;
           }
 
--- ---- the tick: its clock, then its cleanup where one is due
-module _ (s : State) (near : Nearest) where
-  pub tick-still : isMultiple (s .t ⊕ one) (s .tGap) ≡ false → beat s near ≡ tickOf s near
+  pub tick-still : r .due ≡ false → view later ≡ tickOf (view s) near
   unfolding tickOf
-  tick-still e = sym (ap (λ (b : Bool). cond b (cleanup (beat s near)) (beat s near)) e)
+  tick-still e = beaten ∙ sym (ap (λ (b : Bool). cond b (cleanup (beat (view s) near)) (beat (view s) near)) (sym (told .due) ∙ e))
 
-  pub tick-cleans : isMultiple (s .t ⊕ one) (s .tGap) ≡ true → cleanup (beat s near) ≡ tickOf s near
+  pub tick-cleans : (v : State) → r .due ≡ true → v ≡ cleanup (view later) → v ≡ tickOf (view s) near
   unfolding tickOf
-  tick-cleans e = sym (ap (λ (b : Bool). cond b (cleanup (beat s near)) (beat s near)) e)
+  tick-cleans v e h = h ∙ ap cleanup beaten ∙ sym (ap (λ (b : Bool). cond b (cleanup (beat (view s) near)) (beat (view s) near)) (sym (told .due) ∙ e))

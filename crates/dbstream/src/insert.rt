@@ -2,7 +2,6 @@
 use crate::DbStream;
 use feature::MAX_DIM;
 use gains::Pass;
-use model::Clock;
 use model::Insertion;
 use neighbours::Scan;
 ghost use Prim.Native.Nat.{_≤_};
@@ -57,17 +56,8 @@ impl DbStream {
         }
         self.link_count = pass.count;
         self.label_count = 0;
-        let drift = self.drift;
-        let clock = Clock::at(t, self.t_gap, drift);
         let near = scan.nearest;
-        let ticked = clock.tick(near);
-        let seen = ticked.drift;
-        self.t = ticked.t;
-        self.drift = seen;
-        if ticked.due {
-            return self.cleaned();
-        }
-        self
+        self.tick(near)
     }
 
     pub fn try_insert(self, x: &[f64]) -> Inserted

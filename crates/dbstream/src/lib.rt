@@ -4,6 +4,7 @@ mod cluster;
 mod insert;
 mod opening;
 mod reading;
+mod tick;
 
 use drift::DriftMonitor;
 pub use insert::Inserted;

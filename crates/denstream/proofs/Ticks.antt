@@ -1,4 +1,5 @@
 -- The stream that an insert leaves, from what the clock and the pruning give. Assumes nothing.
+use Prim.Native.Nat.{ℕ}
 use mathlib.Core.Path.{_≡_, sym, ap, ap₂, _∙_}
 use mathlib.Core.Bool.{Bool, true, false, cond}
 use lib.Ieee.{Float}
@@ -15,9 +16,9 @@ use Rattle.placement.specs.Pools.{stateOf}
 use Rattle.denstream.specs.declared.stream.DenStream.{DenStream}
 use Rattle.denstream.specs.View.{view}
 
--- s with no label, at another time and with another monitor
-abbrev pub at : DenStream → (t : Float) → DriftMonitor → DenStream
-at s t m =
+-- s with so many labels, at another time and with another monitor
+abbrev pub at : DenStream → (labels : ℕ) → (t : Float) → DriftMonitor → DenStream
+at s labels t m =
     record {
       params = s .params;
       t = t;
@@ -26,29 +27,30 @@ at s t m =
       outliers = s .outliers;
       «outlier_count» = s .«outlier_count»;
       labels = s .labels;
-      «label_count» = 0;
+      «label_count» = labels;
       drift = m;
     }
 
 abbrev pub cleared : DenStream → DenStream
-cleared s = at s (s .t) (s .drift)
+cleared s = at s 0 (s .t) (s .drift)
 
--- u keeps the point, and without labels it is the document's stream s before the tick; r is what the clock gives
-module _ (u : DenStream) (s : State) (near : Nearest) (r : Ticked) (placed : view (cleared u) ≡ s) (told : Ticks (record { t = u .t; period = u .params .tp; drift = u .drift }) near r) where
-  beaten : view (at u (r .t) (r .drift)) ≡ beat s near
+-- what the clock r tells, then the pruning where one is due
+module _ (s : DenStream) (near : Nearest) (r : Ticked) (told : Ticks (record { t = s .t; period = s .params .tp; drift = s .drift }) near r) where
+  abbrev later : DenStream
+  later = at s (s .«label_count») (r .t) (r .drift)
+
+  beaten : view later ≡ beat (view s) near
   unfolding view
-  beaten =
-      ap₂ (λ (t : Float) (d : Monitor). stateOf (u .params) t (u .potential) (u .«potential_count») (u .outliers) (u .«outlier_count») (view (cleared u) .labels) d) (told .later) (told .seen)
-      ∙ ap (λ (v : State). beat v near) placed
+  beaten = ap₂ (λ (t : Float) (d : Monitor). stateOf (s .params) t (s .potential) (s .«potential_count») (s .outliers) (s .«outlier_count») (view s .labels) d) (told .later) (told .seen)
 
-  due-is : (b : Bool) → r .due ≡ b → isMultiple (s .t ⊕ one) (s .params .tp) ≡ b
+  due-is : (b : Bool) → r .due ≡ b → isMultiple (view s .t ⊕ one) (view s .params .tp) ≡ b
   unfolding view
-  due-is b e = ap (λ (v : State). isMultiple (v .t ⊕ one) (v .params .tp)) (sym placed) ∙ sym (told .due) ∙ e
+  due-is b e = sym (told .due) ∙ e
 
-  pub tick-still : r .due ≡ false → view (at u (r .t) (r .drift)) ≡ tickOf s near
+  pub tick-still : r .due ≡ false → view later ≡ tickOf (view s) near
   unfolding tickOf
-  tick-still e = beaten ∙ sym (ap (λ (b : Bool). cond b (pruned (beat s near)) (beat s near)) (due-is false e))
+  tick-still e = beaten ∙ sym (ap (λ (b : Bool). cond b (pruned (beat (view s) near)) (beat (view s) near)) (due-is false e))
 
-  pub tick-prunes : (v : State) → r .due ≡ true → v ≡ pruned (view (at u (r .t) (r .drift))) → v ≡ tickOf s near
+  pub tick-prunes : (v : State) → r .due ≡ true → v ≡ pruned (view later) → v ≡ tickOf (view s) near
   unfolding tickOf
-  tick-prunes v e h = h ∙ ap pruned beaten ∙ sym (ap (λ (b : Bool). cond b (pruned (beat s near)) (beat s near)) (due-is true e))
+  tick-prunes v e h = h ∙ ap pruned beaten ∙ sym (ap (λ (b : Bool). cond b (pruned (beat (view s) near)) (beat (view s) near)) (due-is true e))

@@ -1,7 +1,6 @@
 // A point is taken.
 use crate::stream::DenStream;
 use feature::MAX_DIM;
-use model::Clock;
 use model::Insertion;
 use placement::Placement;
 use placement::Target;
@@ -23,7 +22,7 @@ pub struct Inserted {
 
 impl DenStream {
     // Unless the point is refused, its micro-cluster goes to its target, the labels are cleared and the clock ticks.
-    // The tick stands here, and a refused stream goes this way too: each saves a copy of the stream.
+    // A refused stream goes this way too, which saves a copy of the stream.
     fn taken(mut self, done: bool, p: Placement) -> Self
         requires { ⌜ Ready (p .target) (p .place) (view self) ⌝ }
         requires placed { ⌜ (done ≡ true → takes (p .target) ≡ true) ⌝ }
@@ -63,18 +62,8 @@ impl DenStream {
             }
         }
         self.label_count = 0;
-        let params = self.params;
-        let drift = self.drift;
-        let clock = Clock::at(self.t, params.tp, drift);
         let near = p.near;
-        let ticked = clock.tick(near);
-        let seen = ticked.drift;
-        self.t = ticked.t;
-        self.drift = seen;
-        if ticked.due {
-            return self.pruned();
-        }
-        self
+        self.tick(near)
     }
 
     pub fn try_insert(self, x: &[f64]) -> Inserted

@@ -4,6 +4,7 @@ mod insert;
 mod opening;
 mod pruning;
 mod stream;
+mod tick;
 
 pub use insert::Inserted;
 pub use opening::Opened;

@@ -1,22 +1,16 @@
 -- `taken` meets its contract. Assumes nothing.
 use native.Mathlib.Omega.{arith}
-use mathlib.Core.Path.{_≡_, refl, sym, ap, subst, _∙_}
+use mathlib.Core.Path.{_≡_, refl, sym, ap, _∙_}
 use mathlib.Core.Bool.{true≢false}
 use borrow.Author.Tests.{not-true, not-false}
 use lib.ListN.{length, take, set, length-map, length-set}
-use Rattle.float.specs.Rounded.{_⊕_, one}
-use Rattle.drift.specs.Monitor as drift
-use Rattle.drift.specs.Monitor.{observeOf}
-use Rattle.model.specs.declared.clock.Clock.{Clock}
-use Rattle.model.specs.Fading.{isMultiple}
-use Rattle.model.specs.DbInsert.{cleanup, beat, tickOf}
-use Rattle.model.specs.Ticking.{Ticks}
+use Rattle.model.specs.DbState.{State}
+use Rattle.model.specs.DbInsert.{tickOf}
 use Rattle.model.specs.InsertLaws.{when-done, when-refused}
 use Rattle.gains.specs.Passing.{Passing, Kept, toGo, starts, stepped, ends}
-use Rattle.dbstream.specs.declared.DbStream.{DbStream}
 use Rattle.dbstream.specs.Stream.{view}
 use Rattle.dbstream.specs.Placed.{placedBy}
-use Rattle.dbstream.proofs.Ticks.{having, Linked, linked-first, linked-next, goal, beaten, tick-still, tick-cleans}
+use Rattle.dbstream.proofs.Ticks.{Linked, linked-first, linked-next, goal, placed-is}
 use borrow.Author.Needs.{needs}
 use Rattle.dbstream.proofs.DbStream.taken.Statement.{statement}
 use Rattle.dbstream.proofs.DbStream.taken.Tie as tie
@@ -92,58 +86,19 @@ loop-again c =
       length-set (k .self .links) _ _ ∙ k .inv .2,
     )
 
--- what the clock tells
-told :
-    (c : tie.After-seen Inv-loop μ-loop) →
-    let k = c .before .before .before .before .before .before .before .loop in
-    let a = c .before .before .before .before .before .before .before .before .before .before .before .before .before .before .before .before .args in
-    Ticks (record { t = a .t1 .t; period = k .self .«t_gap»; drift = k .self .drift }) (a .scan .nearest) (c .before .tick .result)
-told c = subst (λ (q : Clock). Ticks q (c .before .before .before .before .before .before .before .before .before .before .before .before .before .before .before .before .args .scan .nearest) (c .before .tick .result)) (c .before .before .at .ensures) (c .before .tick .ensures)
-
--- what the clock leaves is document 01's stream before its cleanup
-beat-is :
-    (c : tie.After-seen Inv-loop μ-loop) →
-    let k = c .before .before .before .before .before .before .before .loop in
-    let a = c .before .before .before .before .before .before .before .before .before .before .before .before .before .before .before .before .args in
-    let ticked = c .before .tick .result in
-    view (having (k .self) (k .self .«next_id») (k .self .micros) (k .self .count) (k .self .links) (k .pass .count) 0 (ticked .t) (ticked .drift)) ≡ beat (placedBy (a .t1) (a .scan) (take (a .dim) (a .x))) (a .scan .nearest)
-beat-is c =
-    let k = c .before .before .before .before .before .before .before .loop in
-    let a = c .before .before .before .before .before .before .before .before .before .before .before .before .before .before .before .before .args in
-    let p = c .before .before .before .before .before .before .before .before .before .before .before .before .with-point in
-    let ticked = c .before .tick .result in
-    beaten (a .t1) (a .scan) (take (a .dim) (a .x)) (a .scan .nearest) (p .result .«next_id») (p .result .micros) (p .result .count) (k .self) (k .pass .count) (ticked .t) (ticked .drift)
-    (p .ensures .0) (p .ensures .1) (k .inv .0 .rest) (ends _ _ _ _ _ _ _ (k .inv .1) (c .before .before .before .before .if2 .left)) (told c .later)
-    (told c .seen ∙ ap (λ (v : DbStream). observeOf (drift.view (v .drift)) (a .scan .nearest) (a .t1 .t)) (k .inv .0 .rest))
-
-due-is :
-    (c : tie.After-seen Inv-loop μ-loop) →
-    let a = c .before .before .before .before .before .before .before .before .before .before .before .before .before .before .before .before .args in
-    c .before .tick .result .due ≡ isMultiple (a .t1 .t ⊕ one) (a .t1 .«t_gap»)
-due-is c =
-    let a = c .before .before .before .before .before .before .before .before .before .before .before .before .before .before .before .before .args in
-    told c .due ∙ ap (λ (v : DbStream). isMultiple (a .t1 .t ⊕ one) (v .«t_gap»)) (c .before .before .before .before .before .before .before .loop .inv .0 .rest)
-
-at-requires : tie.Need-at-requires Inv-loop μ-loop
-at-requires c κs = search needs
-
 tick-requires : tie.Need-tick-requires Inv-loop μ-loop
 tick-requires c κs = search needs
 
-cleaned-requires : tie.Need-cleaned-requires Inv-loop μ-loop
-cleaned-requires c κs = search needs
-
+-- the loop leaves document 01's stream before its tick
 returns-2 : tie.Need-returns-2 Inv-loop μ-loop
 returns-2 c =
-    let a = c .before .before .before .before .before .before .before .before .before .before .before .before .before .before .before .before .before .before .args in
-    let done = not-false _ (c .before .before .before .before .before .before .before .before .before .before .before .before .before .before .before .before .before .if1 .left) in
-    (c .cleaned .ensures ∙ ap cleanup (beat-is (c .before .before)) ∙ tick-cleans _ (a .scan .nearest) (sym (due-is (c .before .before)) ∙ c .before .if3 .taken) ∙ when-done _ _ _ done, λ q. absurd (true≢false (sym done ∙ q)))
-
-returns-3 : tie.Need-returns-3 Inv-loop μ-loop
-returns-3 c =
-    let a = c .before .before .before .before .before .before .before .before .before .before .before .before .before .before .before .before .before .args in
-    let done = not-false _ (c .before .before .before .before .before .before .before .before .before .before .before .before .before .before .before .before .if1 .left) in
-    (beat-is (c .before) ∙ tick-still _ (a .scan .nearest) (sym (due-is (c .before)) ∙ c .if3 .left) ∙ when-done _ _ _ done, λ q. absurd (true≢false (sym done ∙ q)))
+    let k = c .before .before .before .before .loop in
+    let p = c .before .before .before .before .before .before .before .before .before .with-point in
+    let a = c .before .before .before .before .before .before .before .before .before .before .before .before .before .args in
+    let done = not-false _ (c .before .before .before .before .before .before .before .before .before .before .before .before .if1 .left) in
+    let x = take (a .dim) (a .x) in
+    let placed = placed-is (a .t1) (a .scan) x (p .result .«next_id») (p .result .micros) (p .result .count) (k .self) (k .pass .count) (p .ensures .0) (p .ensures .1) (k .inv .0 .rest) (ends _ _ _ _ _ _ _ (k .inv .1) (c .before .if2 .left)) in
+    (c .tick .ensures ∙ ap (λ (s : State). tickOf s (a .scan .nearest)) placed ∙ when-done _ _ _ done, λ q. absurd (true≢false (sym done ∙ q)))
 
 pub taken-spec : {M : Type 1} → statement M
 taken-spec =
@@ -163,8 +118,5 @@ taken-spec =
     element-set-from-new
     loop-less
     loop-again
-    at-requires
     tick-requires
-    cleaned-requires
-    returns-2
-    returns-3)
+    returns-2)

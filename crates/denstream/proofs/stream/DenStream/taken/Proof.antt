@@ -1,19 +1,18 @@
 -- `DenStream::taken` meets its contract. Assumes nothing.
-use mathlib.Core.Path.{_≡_, refl, sym, ap, subst, _∙_}
+use mathlib.Core.Path.{_≡_, refl, sym, ap, _∙_}
 use mathlib.Core.Logic.{⊎-elim}
 use mathlib.Core.Bool.{true≢false}
 use native.Mathlib.Omega.{arith}
 use borrow.Author.Tests.{not-true, not-false}
 use borrow.Author.Needs.{needs}
 use lib.ListN.{length-map}
+use Rattle.model.specs.DenState.{State}
 use Rattle.model.specs.DenInsert.{tickOf}
-use Rattle.model.specs.declared.clock.Clock.{Clock}
-use Rattle.model.specs.Ticking.{Ticks}
 use Rattle.model.specs.InsertLaws.{when-done, when-refused}
 use Rattle.placement.specs.Placing.{takes}
 use Rattle.denstream.specs.declared.stream.DenStream.{DenStream}
 use Rattle.denstream.specs.View.{view}
-use Rattle.denstream.proofs.Ticks.{cleared, tick-still, tick-prunes}
+use Rattle.denstream.proofs.Ticks.{cleared}
 use Rattle.denstream.proofs.Places.{Counted, pooledIn, potential-low, outlier-low, promotion-low, newborn-low, to-potential, to-outlier, to-promotion, to-newborn}
 use Rattle.denstream.proofs.stream.DenStream.taken.Statement.{statement}
 use Rattle.denstream.proofs.stream.DenStream.taken.Tie as tie
@@ -105,41 +104,16 @@ pooled c =
     (λ w. ap (λ (v : DenStream). view (cleared v)) (w .2) ∙ to-newborn k (w .1 .given .1))))
     (c .match .came)
 
-at-requires : tie.Need-at-requires
-at-requires c κs = search needs
-
 tick-requires : tie.Need-tick-requires
 tick-requires c κs = search needs
-
-pruned-requires : tie.Need-pruned-requires
-pruned-requires c κs = search needs
-
--- what the clock tells
-told :
-    (c : tie.After-seen) →
-    let u = c .before .before .before .before .before .match .self in
-    Ticks (record { t = u .t; period = u .params .tp; drift = u .drift }) (c .before .before .before .before .before .before .before .before .before .before .args .p .near) (c .before .tick .result)
-told c = subst (λ (q : Clock). Ticks q (c .before .before .before .before .before .before .before .before .before .before .args .p .near) (c .before .tick .result)) (c .before .before .at .ensures) (c .before .tick .ensures)
 
 returns-3 : tie.Need-returns-3
 unfolding view
 returns-3 c =
-    let u = c .before .before .before .before .before .before .before in
-    let a = c .before .before .before .before .before .before .before .before .before .before .before .before .args in
+    let a = c .before .before .before .before .before .before .args in
     let s = pooledIn (a .t1) (a .p) in
-    let done = not-false (a .done) (c .before .before .before .before .before .before .before .before .before .before .before .if1 .left) in (
-      tick-prunes (u .match .self) s (a .p .near) _ (pooled u) (told (c .before .before)) (view (c .pruned .result)) (c .before .if2 .taken) (c .pruned .ensures) ∙ when-done (a .done) (tickOf s (a .p .near)) (view (a .t1)) done,
-      λ q. absurd (true≢false (sym done ∙ q)),
-    )
-
-returns-4 : tie.Need-returns-4
-unfolding view
-returns-4 c =
-    let u = c .before .before .before .before .before .before in
-    let a = c .before .before .before .before .before .before .before .before .before .before .before .args in
-    let s = pooledIn (a .t1) (a .p) in
-    let done = not-false (a .done) (c .before .before .before .before .before .before .before .before .before .before .if1 .left) in (
-      tick-still (u .match .self) s (a .p .near) _ (pooled u) (told (c .before)) (c .if2 .left) ∙ when-done (a .done) (tickOf s (a .p .near)) (view (a .t1)) done,
+    let done = not-false (a .done) (c .before .before .before .before .before .if1 .left) in (
+      c .tick .ensures ∙ ap (λ (v : State). tickOf v (a .p .near)) (pooled (c .before)) ∙ when-done (a .done) (tickOf s (a .p .near)) (view (a .t1)) done,
       λ q. absurd (true≢false (sym done ∙ q)),
     )
 
@@ -167,8 +141,5 @@ taken-spec =
     add-self-2
     enum-told-5
     returns-2
-    at-requires
     tick-requires
-    pruned-requires
-    returns-3
-    returns-4)
+    returns-3)

@@ -1,0 +1,40 @@
+-- `tick` meets its contract. Assumes nothing.
+use mathlib.Core.Path.{subst}
+use borrow.Author.Needs.{needs}
+use Rattle.model.specs.declared.clock.Clock.{Clock}
+use Rattle.model.specs.Ticking.{Ticks}
+use Rattle.dbstream.specs.Stream.{view}
+use Rattle.dbstream.proofs.Ticks.{tick-still, tick-cleans}
+use Rattle.dbstream.proofs.DbStream.tick.Statement.{statement}
+use Rattle.dbstream.proofs.DbStream.tick.Tie as tie
+
+at-requires : tie.Need-at-requires
+at-requires c κs = search needs
+
+tick-requires : tie.Need-tick-requires
+tick-requires c κs = search needs
+
+-- what the clock tells
+told :
+    (c : tie.After-tick) →
+    let a = c .before .before .before .args in
+    Ticks (record { t = a .self .t; period = a .self .«t_gap»; drift = a .self .drift }) (a .near) (c .tick .result)
+told c = subst (λ (q : Clock). Ticks q (c .before .before .before .args .near) (c .tick .result)) (c .before .at .ensures) (c .tick .ensures)
+
+cleaned-requires : tie.Need-cleaned-requires
+cleaned-requires c κs = search needs
+
+returns : tie.Need-returns
+returns c =
+    let k = c .before .before .before .before .before .before .before in
+    let a = k .before .before .before .args in
+    tick-cleans (a .self) (a .near) (k .tick .result) (told k) (view (c .cleaned .result)) (c .before .before .before .before .before .if1 .taken) (c .cleaned .ensures)
+
+returns-2 : tie.Need-returns-2
+returns-2 c =
+    let k = c .before .before .before .before .before .before in
+    let a = k .before .before .before .args in
+    tick-still (a .self) (a .near) (k .tick .result) (told k) (c .before .before .before .before .if1 .left)
+
+pub tick-spec : {M : Type 1} → statement M
+tick-spec = tie.close (tie.spec at-requires tick-requires cleaned-requires returns returns-2)

@@ -1,0 +1,42 @@
+-- `DenStream::tick` meets its contract. Assumes nothing.
+use mathlib.Core.Path.{subst}
+use borrow.Author.Needs.{needs}
+use Rattle.model.specs.declared.clock.Clock.{Clock}
+use Rattle.model.specs.Ticking.{Ticks}
+use Rattle.denstream.specs.View.{view}
+use Rattle.denstream.proofs.Ticks.{tick-still, tick-prunes}
+use Rattle.denstream.proofs.stream.DenStream.tick.Statement.{statement}
+use Rattle.denstream.proofs.stream.DenStream.tick.Tie as tie
+
+at-requires : tie.Need-at-requires
+at-requires c κs = search needs
+
+tick-requires : tie.Need-tick-requires
+tick-requires c κs = search needs
+
+-- what the clock tells
+told :
+    (c : tie.After-tick) →
+    let a = c .before .before .before .before .args in
+    Ticks (record { t = a .self .t; period = a .self .params .tp; drift = a .self .drift }) (a .near) (c .tick .result)
+told c = subst (λ (q : Clock). Ticks q (c .before .before .before .before .args .near) (c .tick .result)) (c .before .at .ensures) (c .tick .ensures)
+
+pruned-requires : tie.Need-pruned-requires
+pruned-requires c κs = search needs
+
+returns : tie.Need-returns
+unfolding view
+returns c =
+    let k = c .before .before .before .before .before .before .before in
+    let a = k .before .before .before .before .args in
+    tick-prunes (a .self) (a .near) (k .tick .result) (told k) (view (c .pruned .result)) (c .before .before .before .before .before .if1 .taken) (c .pruned .ensures)
+
+returns-2 : tie.Need-returns-2
+unfolding view
+returns-2 c =
+    let k = c .before .before .before .before .before .before in
+    let a = k .before .before .before .before .args in
+    tick-still (a .self) (a .near) (k .tick .result) (told k) (c .before .before .before .before .if1 .left)
+
+pub tick-spec : {M : Type 1} → statement M
+tick-spec = tie.close (tie.spec at-requires tick-requires pruned-requires returns returns-2)
