@@ -15,6 +15,4 @@ fn main() {
         println!("cargo:rerun-if-changed={archive}");
         println!("cargo:rustc-link-arg-bin=bench={archive}");
     }
-    // The remainder of doubles is C's fmod.
-    println!("cargo:rustc-link-arg-bin=bench=-lm");
 }

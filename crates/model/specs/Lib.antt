@@ -5,6 +5,7 @@ pub mod Questions
 pub mod Any
 pub mod Fading
 pub mod Ticking
+pub mod TickLaws
 pub mod Periods
 pub mod Nearest
 pub mod Families

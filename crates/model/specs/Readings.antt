@@ -5,7 +5,7 @@ use mathlib.Core.Bool.{Bool, false}
 use mathlib.Core.List.{[], _∷_}
 use lib.IntN.{ℤ, negsuc}
 use lib.ListN.{length}
-use lib.Ieee.{Float, fin}
+use lib.Ieee.{Float, fin, toUnsigned}
 use Rattle.float.specs.Computed.{computed}
 use Rattle.float.specs.Rounded.{nought, one, two, whole}
 use Rattle.sqrt.specs.Root.{sqrtOf}
@@ -16,6 +16,7 @@ use Rattle.feature.specs.Fade.{fadeOf}
 use Rattle.adwin.specs.Window.{newOf, updateOf}
 use Rattle.adwin.specs.History as window
 use Rattle.adwin.specs.Readings.{sizesOf, seven, seven-values}
+use Rattle.model.specs.Fading.{ticksOf}
 use Rattle.model.specs.declared.params.Params.{Params}
 use Rattle.model.specs.Answers.{openingNumber}
 use Rattle.model.specs.Any.{any}
@@ -63,5 +64,5 @@ pub readings :
     -- "dim 16: refusal 1; dim 15 opens."
     × (openingNumber (db.asked (unit 16)) ≡ 1)
     × (openingNumber (db.asked (unit 15)) ≡ 0)
-unfolding computed sqrtOf sumFrom moved retain any updateOf den.asked db.asked db-insert.leastOf db-insert.pairsOf db-insert.gainIn db-insert.tickOf db-insert.insertOf runOf
+unfolding computed toUnsigned ticksOf sqrtOf sumFrom moved retain any updateOf den.asked db.asked db-insert.leastOf db-insert.pairsOf db-insert.gainIn db-insert.tickOf db-insert.insertOf runOf
 readings = (refl, refl, refl, refl, refl, refl, refl, refl, refl, refl, refl, seven-values, refl, refl)

@@ -2,14 +2,30 @@
 use drift::DriftMonitor;
 use drift::Nearest;
 ghost use mathlib.Core.Path.{_≡_};
-ghost use Rattle.model.specs.Fading.{isMultiple};
+ghost use Rattle.model.specs.Fading.{isMultiple, ticksOf};
 ghost use Rattle.model.specs.Ticking.{Ticks};
+
+// The whole ticks of a time; 0 where it is not above 0 or not below 2 to the power 63.
+fn ticks(x: f64) -> u64
+    ensures { λ r. ⌜ r ≡ ticksOf x ⌝ }
+{
+    if x > 0.0 {
+        if x < 9223372036854775808.0 {
+            return std::num::truncating_f64_to_u64(x);
+        }
+    }
+    0
+}
 
 // Whether the clock is a multiple of a period.
 fn is_multiple(t: f64, period: f64) -> bool
     ensures { λ r. ⌜ r ≡ isMultiple t period ⌝ }
 {
-    t % period == 0.0
+    let p = ticks(period);
+    if p == 0 {
+        return false;
+    }
+    ticks(t) % p == 0
 }
 
 // The tick, the ticks between two prunings, and the monitor.
