@@ -3,11 +3,12 @@ use mathlib.Core.List.{List, [], map, foldl}
 use lib.Ieee.{Float}
 use lib.ListN.{take}
 use Rattle.drift.specs.Monitor as drift
+use Rattle.drift.specs.declared.Nearest.{Nearest}
 use Rattle.model.specs.declared.micro.MicroId.{MicroId}
 use Rattle.model.specs.declared.micro.DbMicro.{DbMicro}
 use Rattle.model.specs.declared.link.Link.{Link}
 use Rattle.model.specs.DbState.{State}
-use Rattle.model.specs.DbInsert.{pairsOf, gainOf}
+use Rattle.model.specs.DbInsert as insert
 use Rattle.neighbours.specs.declared.scan.Scan.{Scan}
 use Rattle.micro.specs.Held.{cutTo}
 use Rattle.neighbours.specs.Placing.{placedAmong, nextAfter}
@@ -34,7 +35,11 @@ abbrev pub microsBy : DbStream → Scan → List Float → List DbMicro
 microsBy s f x = map (cutTo (dimOf s)) (placedAmong f (s .r) (s .lambda) (s .t) (s .«next_id») x (s .count) (take (s .count) (s .micros)))
 
 abbrev pub gainedBy : DbStream → Scan → List Link
-gainedBy s f = foldl (gainOf (s .lambda) (s .t)) (take (s .«link_count») (s .links)) (pairsOf (take (f .count) (f .ids)))
+gainedBy s f = foldl (insert.gainOf (s .lambda) (s .t)) (take (s .«link_count») (s .links)) (insert.pairsOf (take (f .count) (f .ids)))
 
 abbrev pub placedBy : DbStream → Scan → List Float → State
 placedBy s f x = changed s (nextAfter f (s .count) (s .«next_id»)) (microsBy s f x) (gainedBy s f)
+
+-- the drift distance that the tick is told: "all measured before any changes", from the means as the scan met them
+abbrev pub toldOf : DbStream → Scan → List Float → Nearest
+toldOf s f x = f .nearest

@@ -14,7 +14,7 @@ ghost use Rattle.model.specs.Answers.{insertionNumber};
 ghost use Rattle.model.specs.Numbers.{insertionNo, insertionSaid};
 ghost use Rattle.model.specs.DbInsert.{tickOf, hasPlace, insertOf};
 ghost use Rattle.dbstream.specs.Stream.{view, insertedTold};
-ghost use Rattle.dbstream.specs.Placed.{placedBy};
+ghost use Rattle.dbstream.specs.Placed.{placedBy, toldOf};
 
 // The answer, and the stream given back.
 pub struct Inserted {
@@ -27,7 +27,7 @@ impl DbStream {
     // The links' loop stands here, where their array is owned, and a refused stream goes this way too: each saves a copy of the links.
     fn taken(mut self, done: bool, scan: Scan, x: [f64; MAX_DIM], dim: usize) -> Self
         requires { ⌜ scan .count ≤ microsMost ⌝ }
-        ensures { λ r. ⌜ view r ≡ cond done (tickOf (placedBy self scan (take dim x)) (scan .nearest)) (view self) ⌝ }
+        ensures { λ r. ⌜ view r ≡ cond done (tickOf (placedBy self scan (take dim x)) (toldOf self scan (take dim x))) (view self) ⌝ }
         ensures kept { λ r. ⌜ (done ≡ false → r ≡ self) ⌝ }
     {
         if !done {

@@ -9,7 +9,7 @@ use Rattle.model.specs.DbInsert.{tickOf}
 use Rattle.model.specs.InsertLaws.{when-done, when-refused}
 use Rattle.gains.specs.Passing.{Passing, Kept, toGo, starts, stepped, ends}
 use Rattle.dbstream.specs.Stream.{view}
-use Rattle.dbstream.specs.Placed.{placedBy}
+use Rattle.dbstream.specs.Placed.{placedBy, toldOf}
 use Rattle.dbstream.proofs.Ticks.{Linked, linked-first, linked-next, goal, placed-is}
 use borrow.Author.Needs.{needs}
 use Rattle.dbstream.proofs.DbStream.taken.Statement.{statement}
@@ -31,7 +31,7 @@ ids-room c = sym (length-map (c .args .scan .ids) _) ∙ c .good .1 .1 .0 .1 .1 
 returns : tie.Need-returns Inv-loop μ-loop
 returns c =
     let a = c .before .args in
-    (when-refused (a .done) (tickOf (placedBy (a .t1) (a .scan) (take (a .dim) (a .x))) (a .scan .nearest)) (view (a .t1)) (not-true _ (c .if1 .taken)), λ q. refl)
+    (when-refused (a .done) (tickOf (placedBy (a .t1) (a .scan) (take (a .dim) (a .x))) (toldOf (a .t1) (a .scan) (take (a .dim) (a .x)))) (view (a .t1)) (not-true _ (c .if1 .taken)), λ q. refl)
 
 with-point-requires : tie.Need-with-point-requires Inv-loop μ-loop
 with-point-requires c κs = search needs
