@@ -12,6 +12,7 @@ pub mod Weights
 pub mod DbPlaces
 pub mod DbCases
 pub mod DbSettings
+pub mod DbPeriods
 pub mod DbGains
 pub mod DbFresh
 pub mod DbNumbers

@@ -16,6 +16,7 @@ use Rattle.claims.specs.DbClaims as db-claim
 use Rattle.claims.specs.DenClaims as den-claim
 use Rattle.claims.proofs.Early.{window-takes}
 use Rattle.claims.proofs.DbSettings as db-set
+use Rattle.claims.proofs.DbPeriods.{gap-whole, due-is}
 use Rattle.claims.proofs.DbFresh as db-fresh
 use Rattle.claims.proofs.DbFigures as db-figures
 use Rattle.claims.proofs.DbRoom.{fits, at-most-64}
@@ -41,6 +42,8 @@ dbstream =
         settings = db-set.stays-set p xs .settings;
         tGap = db-set.stays-set p xs .tGap;
         floor = db-set.stays-set p xs .floor;
+        period = gap-whole p opens;
+        due = due-is p opens _ _ (db-fresh.from-fresh p xs .clock);
         labels = labels-tell (db-claim.after p xs) (db-fresh.from-fresh p xs .ascending) (at-most-64 p xs);
         holdings = db-fresh.from-fresh p xs;
         figures = db-figures.figures p xs;

@@ -7,8 +7,8 @@ use mathlib.Core.List.{List, _++_, map, foldl}
 use lib.Dec.{T}
 use lib.IntN.{ℤ, pos, negsuc}
 use lib.ListN.{length}
-use lib.Ieee.{Float, le}
-use Rattle.float.specs.Rounded.{_⊗_, one, whole}
+use lib.Ieee.{Float, binary64, le, eq, rem}
+use Rattle.float.specs.Rounded.{_⊗_, nought, one, whole}
 use Rattle.union_find.specs.Pairs.{Chain}
 use Rattle.adwin.specs.Window.{updateOf}
 use Rattle.drift.specs.Monitor.{newOf}
@@ -22,7 +22,9 @@ use Rattle.model.specs.declared.answers.Insertion.{Insertion}
 use Rattle.model.specs.declared.answers.Insertion.the-variants.{Done}
 use Rattle.model.specs.Limits.{microsMost, linksMost}
 use Rattle.model.specs.Run.{runOf, answersOf, acceptedIn}
+use Rattle.model.specs.Fading.{isMultiple}
 use Rattle.model.specs.Periods.{tGapOf, floorOf}
+use Rattle.model.specs.PeriodLaws.{Period}
 use Rattle.model.specs.DbState.{Settings, State, asked, fresh, openOf}
 use Rattle.model.specs.DbInsert.{idOf, pairsOf, gainIn, absent, neighboursOf, joined, nearestFor, insertOf}
 use Rattle.model.specs.DbCluster.{isStrong, isDense, clusterOf}
@@ -174,6 +176,10 @@ pub record OneStream (p : Settings) (xs : List (List Float)) : Type 0 where
   pub settings : after p xs .settings ≡ p
   pub tGap : after p xs .tGap ≡ tGapOf (p .lambda)
   pub floor : after p xs .floor ≡ floorOf (p .lambda)
+  -- t_gap is a whole number of ticks, from 1 to 2^32
+  pub period : Period (2 ^ 32) (tGapOf (p .lambda))
+  -- so a cleanup is due exactly where the remainder of the doubles is 0, as in the Rust: `t % t_gap == 0.0`
+  pub due : isMultiple (after p xs .t) (tGapOf (p .lambda)) ≡ eq (rem binary64 (after p xs .t) (tGapOf (p .lambda))) nought
   pub labels : LabelsTellFamilies (clusterOf (after p xs))
   pub holdings : FromFresh (acceptedIn (told p xs)) (after p xs)
   pub figures : Figures (acceptedIn (told p xs)) (after p xs)

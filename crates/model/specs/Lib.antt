@@ -7,6 +7,7 @@ pub mod Fading
 pub mod Ticking
 pub mod TickLaws
 pub mod Periods
+pub mod PeriodLaws
 pub mod Nearest
 pub mod Families
 pub mod ReadOut
