@@ -1,6 +1,7 @@
 -- Demand 3's claims.
 pub mod Lists
 pub mod Clock
+pub mod LnAsked
 pub mod Weighed
 pub mod History
 pub mod DbClaims
