@@ -12,7 +12,7 @@ use Rattle.model.specs.Limits.{clockLimit}
 use Rattle.model.specs.Fading.{isMultiple}
 use Rattle.model.specs.Outcome.{Outcome}
 use Rattle.model.specs.DbState.{State}
-use Rattle.model.specs.DbInsert.{isAbsorbed, born, joined, placed, cleanup, beat, tickOf, takenOf, hasPlace, insertOf}
+use Rattle.model.specs.DbInsert.{isAbsorbed, born, joined, placed, cleanup, advanced, tickOf, takenOf, hasPlace, insertOf}
 use Rattle.claims.proofs.Cases.{asked-cases}
 
 pub placed-cases :
@@ -24,11 +24,11 @@ placed-cases P s x old new = go (isAbsorbed s x) refl
     go true e = old e
     go false e = new e
 
-pub tick-cases : (P : State → Type 0) (s : State) (d : Nearest) → P (cleanup (beat s d)) → P (beat s d) → P (tickOf s d)
+pub tick-cases : (P : State → Type 0) (s : State) (d : Nearest) → P (cleanup (advanced s d)) → P (advanced s d) → P (tickOf s d)
 unfolding tickOf
-tick-cases P s d due not-due = go (isMultiple (beat s d .t) (s .tGap))
+tick-cases P s d due not-due = go (isMultiple (advanced s d .t) (s .tGap))
   where
-    go : (b : Bool) → P (cond b (cleanup (beat s d)) (beat s d))
+    go : (b : Bool) → P (cond b (cleanup (advanced s d)) (advanced s d))
     go true = due
     go false = not-due
 

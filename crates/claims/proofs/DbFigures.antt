@@ -18,7 +18,7 @@ use Rattle.model.specs.declared.link.Link.{Link}
 use Rattle.model.specs.Outcome.{Outcome}
 use Rattle.model.specs.Run.{oneIfDone, acceptedIn}
 use Rattle.model.specs.DbState.{Settings, State, fresh}
-use Rattle.model.specs.DbInsert.{idOf, isNeighbour, newborn, absorbs, absorbed, pairOf, pairsOf, gains, absent, before, sameEnds, gainIn, hasRoom, gainOf, microStays, linkStays, neighboursOf, born, joined, placed, cleanup, beat, tickOf, insertOf}
+use Rattle.model.specs.DbInsert.{idOf, isNeighbour, newborn, absorbs, absorbed, pairOf, pairsOf, gains, absent, before, sameEnds, gainIn, hasRoom, gainOf, microStays, linkStays, neighboursOf, born, joined, placed, cleanup, advanced, tickOf, insertOf}
 use Rattle.claims.specs.Lists.{In, Each, Ascending}
 use Rattle.claims.specs.Clock.{Counts}
 use Rattle.claims.specs.Weighed.{Weighed}
@@ -155,7 +155,7 @@ figures-tick n s d g =
     (record { means = g .means; weights = g .weights; densities = g .densities })
   where
     u : State
-    u = beat s d
+    u = advanced s d
 
     stays : DbMicro → Bool
     stays = microStays (s .settings .lambda) (s .floor) (u .t)

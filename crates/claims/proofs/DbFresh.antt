@@ -19,7 +19,7 @@ use Rattle.model.specs.Limits.{clockLimit, clockMost}
 use Rattle.model.specs.Outcome.{Outcome}
 use Rattle.model.specs.Run.{oneIfDone, acceptedIn}
 use Rattle.model.specs.DbState.{Settings, State, fresh}
-use Rattle.model.specs.DbInsert.{idOf, isNeighbour, newborn, absorbed, absorbs, pairsOf, gainIn, gainOf, absent, hasRoom, fadedLink, microStays, linkStays, isHeld, neighboursOf, born, joined, placed, cleanup, beat, tickOf, takenOf, insertOf}
+use Rattle.model.specs.DbInsert.{idOf, isNeighbour, newborn, absorbed, absorbs, pairsOf, gainIn, gainOf, absent, hasRoom, fadedLink, microStays, linkStays, isHeld, neighboursOf, born, joined, placed, cleanup, advanced, tickOf, takenOf, insertOf}
 use Rattle.claims.specs.Lists.{In, Each, Ascending}
 use Rattle.claims.specs.Clock.{Counts}
 use Rattle.claims.specs.DbClaims.{Older, Before, Live, LinksHeld, FromFresh, after, told}
@@ -186,9 +186,9 @@ numbered-cleanup n s g =
         (is-live (l .lo) (b .0), is-live (l .hi) (b .1))
 
 numbered-tick : (n : ℕ) (s : State) (d : Nearest) → Numbered n s → Numbered n (tickOf s d)
-numbered-tick n s d g = tick-cases (Numbered n) s d (numbered-cleanup n (beat s d) u) u
+numbered-tick n s d g = tick-cases (Numbered n) s d (numbered-cleanup n (advanced s d) u) u
   where
-    u : Numbered n (beat s d)
+    u : Numbered n (advanced s d)
     u = record { ascending = g .ascending; belowNext = g .belowNext; nextLimit = g .nextLimit; links = g .links }
 
 -- a taken point moves the clock by 1

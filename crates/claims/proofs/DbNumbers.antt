@@ -12,7 +12,7 @@ use Rattle.model.specs.Limits.{clockMost}
 use Rattle.model.specs.Outcome.{Outcome}
 use Rattle.model.specs.Run.{runOf, oneIfDone, acceptedIn}
 use Rattle.model.specs.DbState.{Settings, State, fresh}
-use Rattle.model.specs.DbInsert.{newborn, absorbed, microStays, born, joined, placed, beat, tickOf, insertOf}
+use Rattle.model.specs.DbInsert.{newborn, absorbed, microStays, born, joined, placed, advanced, tickOf, insertOf}
 use Rattle.claims.specs.DbClaims.{Live, FromFresh, after, told}
 use Rattle.claims.proofs.Order.{in-retain, map-in, append-in}
 use Rattle.claims.proofs.Runs.{run-append}
@@ -47,7 +47,7 @@ onward-born n s x f =
 onward-tick : (s u : State) (d : Nearest) → Onward s u → Onward s (tickOf u d)
 onward-tick s u d o =
     tick-cases (Onward s) u d
-    (record { next = o .next; old = λ a h l. o .old a h (l .0, in-retain (microStays (u .settings .lambda) (u .floor) (beat u d .t)) (u .micros) (l .0) (l .1), l .2) })
+    (record { next = o .next; old = λ a h l. o .old a h (l .0, in-retain (microStays (u .settings .lambda) (u .floor) (advanced u d .t)) (u .micros) (l .0) (l .1), l .2) })
     (record { next = o .next; old = o .old })
 
 onward-insert : (n : ℕ) (s : State) (x : List Float) → FromFresh n s → Onward s (insertOf s x .stream)

@@ -20,7 +20,7 @@ use Rattle.model.specs.Limits.{microsMost, linksMost, clockMost}
 use Rattle.model.specs.Outcome.{Outcome}
 use Rattle.model.specs.Run.{acceptedIn}
 use Rattle.model.specs.DbState.{Settings, State, fresh}
-use Rattle.model.specs.DbInsert.{idOf, pairsOf, gains, absent, before, sameEnds, gainIn, hasRoom, gainOf, newborn, absorbed, microStays, neighboursOf, hasPlace, joined, placed, beat, tickOf, insertOf}
+use Rattle.model.specs.DbInsert.{idOf, pairsOf, gains, absent, before, sameEnds, gainIn, hasRoom, gainOf, newborn, absorbed, microStays, neighboursOf, hasPlace, joined, placed, advanced, tickOf, insertOf}
 use Rattle.claims.specs.Lists.{In, Each, Ascending}
 use Rattle.claims.specs.DbClaims.{Older, Before, Live, LinksHeld, FromFresh, Fits, gainUnbounded, after, told}
 use Rattle.claims.proofs.Places.{each-in}
@@ -205,7 +205,7 @@ Few s = length (s .micros) ≤ microsMost
 
 few-tick : (s : State) (d : Nearest) → Few s → Few (tickOf s d)
 few-tick s d h =
-    tick-cases Few s d (omega (arith, retain-length (microStays (s .settings .lambda) (s .floor) (beat s d .t)) (s .micros))) h
+    tick-cases Few s d (omega (arith, retain-length (microStays (s .settings .lambda) (s .floor) (advanced s d .t)) (s .micros))) h
 
 few-placed : (s : State) (x : List Float) → hasPlace s x ≡ true → Few s → Few (placed s x)
 few-placed s x e h =

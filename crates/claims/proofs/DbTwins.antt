@@ -16,7 +16,7 @@ use Rattle.model.specs.Questions.{firstNo}
 use Rattle.model.specs.Outcome.{Outcome, outcome}
 use Rattle.model.specs.Run.{runOf, answersOf}
 use Rattle.model.specs.DbState.{Settings, State, fresh}
-use Rattle.model.specs.DbInsert.{isAbsorbed, joined, born, placed, cleanup, beat, tickOf, takenOf, nearestFor, hasPlace, insertOf}
+use Rattle.model.specs.DbInsert.{isAbsorbed, joined, born, placed, cleanup, advanced, tickOf, takenOf, nearestFor, hasPlace, insertOf}
 use Rattle.claims.specs.DbClaims.{Laxer, SameHoldings, after, told}
 
 module _ (alpha minWeight : Float) where
@@ -44,9 +44,9 @@ module _ (alpha minWeight : Float) where
 
   twin-tick : (labels : List ℤ) (s : State) (d : Nearest) → tickOf (twin labels s) d ≡ twin labels (tickOf s d)
   unfolding tickOf
-  twin-tick labels s d = go (isMultiple (beat s d .t) (s .tGap))
+  twin-tick labels s d = go (isMultiple (advanced s d .t) (s .tGap))
     where
-      go : (b : Bool) → cond b (cleanup (beat (twin labels s) d)) (beat (twin labels s) d) ≡ twin labels (cond b (cleanup (beat s d)) (beat s d))
+      go : (b : Bool) → cond b (cleanup (advanced (twin labels s) d)) (advanced (twin labels s) d) ≡ twin labels (cond b (cleanup (advanced s d)) (advanced s d))
       go true = refl
       go false = refl
 

@@ -16,7 +16,7 @@ use Rattle.model.specs.Fading.{isMultiple}
 use Rattle.model.specs.Nearest.{Near}
 use Rattle.model.specs.Outcome.{Outcome}
 use Rattle.model.specs.DenState.{State}
-use Rattle.model.specs.DenInsert.{trialIn, pooled, newborn, placedBy, placed, isThere, isAbsorbed, pruned, beat, tickOf, takenOf, hasPlace, insertOf}
+use Rattle.model.specs.DenInsert.{trialIn, pooled, newborn, placedBy, placed, isThere, isAbsorbed, pruned, advanced, tickOf, takenOf, hasPlace, insertOf}
 use Rattle.claims.proofs.Cases.{asked-cases}
 use Rattle.claims.proofs.DenTrials.{Tried, TriedBy, tried}
 
@@ -42,11 +42,11 @@ placed-cases P s x old up stays new =
     go none (some b) f g h = grown b g (le (s .params .bm) (b .micro .cf .w))
     go none none f g h = h refl
 
-pub tick-cases : (P : State → Type 0) (s : State) (d : Nearest) → P (pruned (beat s d)) → P (beat s d) → P (tickOf s d)
+pub tick-cases : (P : State → Type 0) (s : State) (d : Nearest) → P (pruned (advanced s d)) → P (advanced s d) → P (tickOf s d)
 unfolding tickOf
-tick-cases P s d due not-due = go (isMultiple (beat s d .t) (s .params .tp))
+tick-cases P s d due not-due = go (isMultiple (advanced s d .t) (s .params .tp))
   where
-    go : (b : Bool) → P (cond b (pruned (beat s d)) (beat s d))
+    go : (b : Bool) → P (cond b (pruned (advanced s d)) (advanced s d))
     go true = due
     go false = not-due
 

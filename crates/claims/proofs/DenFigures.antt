@@ -14,7 +14,7 @@ use Rattle.model.specs.Nearest.{Near}
 use Rattle.model.specs.Outcome.{Outcome}
 use Rattle.model.specs.Run.{oneIfDone, acceptedIn}
 use Rattle.model.specs.DenState.{Settings, State, fresh}
-use Rattle.model.specs.DenInsert.{absorbing, newborn, placed, potentialStays, outlierStays, beat, tickOf, insertOf}
+use Rattle.model.specs.DenInsert.{absorbing, newborn, placed, potentialStays, outlierStays, advanced, tickOf, insertOf}
 use Rattle.claims.specs.Lists.{Each}
 use Rattle.claims.specs.Clock.{Counts}
 use Rattle.claims.specs.Weighed.{Weighed}
@@ -92,8 +92,8 @@ figures-tick : (n : ℕ) (s : State) (d : Nearest) → Figures n s → Figures n
 figures-tick n s d g =
     tick-cases (Figures n) s d
     (record {
-      potential = each-retain (Kept n (s .params .dim)) (potentialStays (s .params) (beat s d .t)) (s .potential) (g .potential);
-      outliers = each-retain (Kept n (s .params .dim)) (outlierStays (s .params) (beat s d .t)) (s .outliers) (g .outliers);
+      potential = each-retain (Kept n (s .params .dim)) (potentialStays (s .params) (advanced s d .t)) (s .potential) (g .potential);
+      outliers = each-retain (Kept n (s .params .dim)) (outlierStays (s .params) (advanced s d .t)) (s .outliers) (g .outliers);
     })
     (record { potential = g .potential; outliers = g .outliers })
 

@@ -21,7 +21,7 @@ use Rattle.model.specs.Nearest.{nearestOf}
 use Rattle.model.specs.Outcome.{Outcome}
 use Rattle.model.specs.Run.{oneIfDone, acceptedIn}
 use Rattle.model.specs.DenState.{Settings, State, paramsOf, fresh}
-use Rattle.model.specs.DenInsert.{newborn, placed, potentialStays, outlierStays, beat, tickOf, takenOf, nearestFor, hasPlace, insertOf}
+use Rattle.model.specs.DenInsert.{newborn, placed, potentialStays, outlierStays, advanced, tickOf, takenOf, nearestFor, hasPlace, insertOf}
 use Rattle.claims.specs.Clock.{Counts}
 use Rattle.claims.specs.History.{seenIf}
 use Rattle.claims.specs.DenClaims.{FromFresh, after, told, seen}
@@ -48,7 +48,7 @@ Few s = length (s .potential) + length (s .outliers) ≤ microsMost
 few-tick : (s : State) (d : Nearest) → Few s → Few (tickOf s d)
 few-tick s d h =
     tick-cases Few s d
-    (omega (arith, h, retain-length (potentialStays (s .params) (beat s d .t)) (s .potential), retain-length (outlierStays (s .params) (beat s d .t)) (s .outliers))) h
+    (omega (arith, h, retain-length (potentialStays (s .params) (advanced s d .t)) (s .potential), retain-length (outlierStays (s .params) (advanced s d .t)) (s .outliers))) h
 
 few-placed : (s : State) (x : List Float) → hasPlace s x ≡ true → Few s → Few (placed s x)
 few-placed s x e h =

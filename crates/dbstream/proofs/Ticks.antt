@@ -17,7 +17,7 @@ use Rattle.model.specs.declared.link.Link.{Link}
 use Rattle.model.specs.declared.clock.Ticked.{Ticked}
 use Rattle.model.specs.Ticking.{Ticks}
 use Rattle.model.specs.DbState.{State}
-use Rattle.model.specs.DbInsert.{idOf, pairsOf, gainOf, microStays, linkStays, cleanup, beat, tickOf}
+use Rattle.model.specs.DbInsert.{idOf, pairsOf, gainOf, microStays, linkStays, cleanup, advanced, tickOf}
 use Rattle.neighbours.specs.declared.scan.Scan.{Scan}
 use Rattle.micro.specs.Held.{cutTo, held}
 use Rattle.neighbours.specs.Placing.{placedAmong, nextAfter}
@@ -122,8 +122,8 @@ module _ (s : DbStream) (near : Nearest) (r : Ticked) (told : Ticks (record { t 
   abbrev later : DbStream
   later = having s (s .«next_id») (s .micros) (s .count) (s .links) (s .«link_count») (s .«label_count») (r .t) (r .drift)
 
-  beaten : view later ≡ beat (view s) near
-  beaten = ap₂ at (told .later) (told .seen)
+  advanced-is : view later ≡ advanced (view s) near
+  advanced-is = ap₂ at (told .later) (told .seen)
     where
       at : Float → Monitor → State
       at t monitor =
@@ -141,8 +141,8 @@ module _ (s : DbStream) (near : Nearest) (r : Ticked) (told : Ticks (record { t 
 
   pub tick-still : r .due ≡ false → view later ≡ tickOf (view s) near
   unfolding tickOf
-  tick-still e = beaten ∙ sym (ap (λ (b : Bool). cond b (cleanup (beat (view s) near)) (beat (view s) near)) (sym (told .due) ∙ e))
+  tick-still e = advanced-is ∙ sym (ap (λ (b : Bool). cond b (cleanup (advanced (view s) near)) (advanced (view s) near)) (sym (told .due) ∙ e))
 
   pub tick-cleans : (v : State) → r .due ≡ true → v ≡ cleanup (view later) → v ≡ tickOf (view s) near
   unfolding tickOf
-  tick-cleans v e h = h ∙ ap cleanup beaten ∙ sym (ap (λ (b : Bool). cond b (cleanup (beat (view s) near)) (beat (view s) near)) (sym (told .due) ∙ e))
+  tick-cleans v e h = h ∙ ap cleanup advanced-is ∙ sym (ap (λ (b : Bool). cond b (cleanup (advanced (view s) near)) (advanced (view s) near)) (sym (told .due) ∙ e))

@@ -11,7 +11,7 @@ use Rattle.model.specs.declared.clock.Ticked.{Ticked}
 use Rattle.model.specs.Fading.{isMultiple}
 use Rattle.model.specs.Ticking.{Ticks}
 use Rattle.model.specs.DenState.{State}
-use Rattle.model.specs.DenInsert.{pruned, beat, tickOf}
+use Rattle.model.specs.DenInsert.{pruned, advanced, tickOf}
 use Rattle.placement.specs.Pools.{stateOf}
 use Rattle.denstream.specs.declared.stream.DenStream.{DenStream}
 use Rattle.denstream.specs.View.{view}
@@ -39,9 +39,9 @@ module _ (s : DenStream) (near : Nearest) (r : Ticked) (told : Ticks (record { t
   abbrev later : DenStream
   later = at s (s .«label_count») (r .t) (r .drift)
 
-  beaten : view later ≡ beat (view s) near
+  advanced-is : view later ≡ advanced (view s) near
   unfolding view
-  beaten = ap₂ (λ (t : Float) (d : Monitor). stateOf (s .params) t (s .potential) (s .«potential_count») (s .outliers) (s .«outlier_count») (view s .labels) d) (told .later) (told .seen)
+  advanced-is = ap₂ (λ (t : Float) (d : Monitor). stateOf (s .params) t (s .potential) (s .«potential_count») (s .outliers) (s .«outlier_count») (view s .labels) d) (told .later) (told .seen)
 
   due-is : (b : Bool) → r .due ≡ b → isMultiple (view s .t ⊕ one) (view s .params .tp) ≡ b
   unfolding view
@@ -49,8 +49,8 @@ module _ (s : DenStream) (near : Nearest) (r : Ticked) (told : Ticks (record { t
 
   pub tick-still : r .due ≡ false → view later ≡ tickOf (view s) near
   unfolding tickOf
-  tick-still e = beaten ∙ sym (ap (λ (b : Bool). cond b (pruned (beat (view s) near)) (beat (view s) near)) (due-is false e))
+  tick-still e = advanced-is ∙ sym (ap (λ (b : Bool). cond b (pruned (advanced (view s) near)) (advanced (view s) near)) (due-is false e))
 
   pub tick-prunes : (v : State) → r .due ≡ true → v ≡ pruned (view later) → v ≡ tickOf (view s) near
   unfolding tickOf
-  tick-prunes v e h = h ∙ ap pruned beaten ∙ sym (ap (λ (b : Bool). cond b (pruned (beat (view s) near)) (beat (view s) near)) (due-is true e))
+  tick-prunes v e h = h ∙ ap pruned advanced-is ∙ sym (ap (λ (b : Bool). cond b (pruned (advanced (view s) near)) (advanced (view s) near)) (due-is true e))

@@ -160,8 +160,8 @@ cleanup s =
     }
 
 -- ---- the tick: "drift monitor, then t grows by 1, then, if t is a multiple of t_gap, cleanup"
-abbrev pub beat : State → Nearest → State
-beat s d =
+abbrev pub advanced : State → Nearest → State
+advanced s d =
     record {
       settings = s .settings;
       tGap = s .tGap;
@@ -175,7 +175,7 @@ beat s d =
     }
 
 unfoldable pub tickOf : State → Nearest → State
-tickOf s d = let u : State = beat s d in cond (isMultiple (u .t) (u .tGap)) (cleanup u) u
+tickOf s d = let u : State = advanced s d in cond (isMultiple (u .t) (u .tGap)) (cleanup u) u
 
 -- ---- an insert
 -- the drift distance, taken before the neighbours' means move

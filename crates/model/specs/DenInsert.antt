@@ -123,8 +123,8 @@ pruned s =
     }
 
 -- ---- the tick: "Tick as in DBSTREAM, with pruning when the grown t is a multiple of tp"
-abbrev pub beat : State → Nearest → State
-beat s d =
+abbrev pub advanced : State → Nearest → State
+advanced s d =
     record {
       params = s .params;
       t = s .t ⊕ one;
@@ -135,7 +135,7 @@ beat s d =
     }
 
 unfoldable pub tickOf : State → Nearest → State
-tickOf s d = let u : State = beat s d in cond (isMultiple (u .t) (u .params .tp)) (pruned u) u
+tickOf s d = let u : State = advanced s d in cond (isMultiple (u .t) (u .params .tp)) (pruned u) u
 
 -- ---- an insert
 abbrev pub takenOf : State → List Float → State
