@@ -1,11 +1,9 @@
 -- A double as a `u64`, cut towards zero, by the cases of `width`. Assumes nothing.
-use Prim.Native.Nat.{_+_, _*_, _≤_}
-use mathlib.Core.Path.{_≡_, refl, sym, subst}
+use Prim.Native.Nat.{_*_, _≤_}
+use mathlib.Core.Path.{_≡_, refl, sym}
 use mathlib.Core.Bool.{true, false, true≢false}
 use native.Mathlib.Omega.{arith}
 use native.Mathlib.Nat.{le-div-iff-mul-le, min-eq-right, zero-div}
-use lib.IntN.{pos}
-use lib.Dec.{T, lt→ltb}
 use lib.Ieee.{Float, nan, inf, fin, binary64, up, down, lt, toUnsigned, ofBits}
 use lib.Ieee.Fits.{down-pos}
 use borrow.Author.Tests.{ltb-false}
@@ -22,18 +20,6 @@ none (fin true m e) h = refl
 none (fin false m e) h =
     let z : m * up e ≡ 0 = omega (arith, ltb-false (0 * 1 * down e) (m * up e * 1) h) in
     rw (z, zero-div)
-
-pub above-minus-one : (x : Float) → lt (ofBits binary64 0) x ≡ true → T (lt (fin true 1 (pos 0)) x)
-unfolding lt ofBits
-above-minus-one nan h = absurd (true≢false (sym h))
-above-minus-one (inf true) h = absurd (true≢false (sym h))
-above-minus-one (inf false) h = tt
-above-minus-one (fin true m e) h = absurd (true≢false (sym h))
-above-minus-one (fin false m e) h = lt→ltb 0 (1 * down e + m * up e * 1) (omega (arith, down-pos e))
-
-pub below-top : (x : Float) → lt x top ≡ true → T (lt x (fin false 1 (pos 64)))
-unfolding ofBits
-below-top x h = subst T (sym h) tt
 
 pub all-ones : (x : Float) → lt (ofBits binary64 0) x ≡ true → lt x top ≡ false → 18446744073709551615 ≡ toUnsigned 64 x
 unfolding lt ofBits toUnsigned

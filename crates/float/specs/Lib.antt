@@ -1,6 +1,7 @@
 pub mod Rounded
 pub mod Order
 pub mod Cut
+pub mod Cutting
 pub mod TwoTo
 pub mod Ln
 pub mod Ceil

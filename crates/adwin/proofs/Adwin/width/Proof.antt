@@ -1,10 +1,14 @@
-use Rattle.adwin.proofs.Counted.{none, all-ones, above-minus-one, below-top}
+use lib.Ieee.{ofBits}
+use native.Mathlib.Omega.{arith}
+use Rattle.float.specs.Cutting.{can-cut}
+use Rattle.adwin.proofs.Counted.{none, all-ones}
 use borrow.Author.Needs.{needs}
 use Rattle.adwin.proofs.Adwin.width.Statement.{statement}
 use Rattle.adwin.proofs.Adwin.width.Tie as tie
 
 truncating-f64-to-u64-requires : tie.Need-truncating-f64-to-u64-requires
-truncating-f64-to-u64-requires c κs = (above-minus-one _ (c .before .if1 .taken), below-top _ (c .if2 .taken))
+unfolding ofBits
+truncating-f64-to-u64-requires c κs = can-cut _ 1 64 (omega arith) (c .before .if1 .taken) (c .if2 .taken)
 
 returns : tie.Need-returns
 returns c = search needs

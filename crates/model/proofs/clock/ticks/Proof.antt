@@ -1,11 +1,14 @@
 -- `ticks` meets its contract. Assumes nothing.
+use native.Mathlib.Omega.{arith}
+use lib.Ieee.{ofBits}
+use Rattle.float.specs.Cutting.{can-cut}
 use Rattle.model.specs.Fading.{ticksOf}
-use Rattle.model.proofs.Ticks.{can-cut}
 use Rattle.model.proofs.clock.ticks.Statement.{statement}
 use Rattle.model.proofs.clock.ticks.Tie as tie
 
 truncating-f64-to-u64-requires : tie.Need-truncating-f64-to-u64-requires
-truncating-f64-to-u64-requires c κs = can-cut _ (c .before .if1 .taken) (c .if2 .taken)
+unfolding ofBits
+truncating-f64-to-u64-requires c κs = can-cut _ 1 63 (omega arith) (c .before .if1 .taken) (c .if2 .taken)
 
 returns : tie.Need-returns
 unfolding ticksOf
