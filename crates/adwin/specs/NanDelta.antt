@@ -2,9 +2,10 @@
 use mathlib.Core.Path.{_≡_, refl, ap, _∙_}
 use mathlib.Core.Bool.{Bool, true, false, cond, not, _||_}
 use mathlib.Core.List.{List, [], _∷_}
-use lib.Ieee.{Float, nan, inf, fin, ofBits, lt, le, add, mul, div}
-use Rattle.float.specs.Rounded.{_⊕_, _⊖_, _⊗_, _⊘_, nought, one, two}
+use lib.Ieee.{Float, nan, ofBits, lt, le}
+use Rattle.float.specs.Rounded.{_⊕_, _⊖_, _⊗_, nought, one, two}
 use Rattle.float.specs.Ln.{lnOf}
+use Rattle.float.specs.Nan.{add-nan, mul-nan, div-nan, not-above-nan}
 use Rattle.buckets.specs.declared.bucket.Bucket.{Bucket}
 use Rattle.buckets.specs.declared.cut.CutTest.{CutTest}
 use Rattle.buckets.specs.Cut.{cutFails, someFails, boundOf, aOf}
@@ -15,31 +16,7 @@ use Rattle.adwin.specs.Window.{Window, Outcome, grown, shrunk, isEmpty, 
 use Rattle.adwin.specs.History.{runOf}
 use Rattle.adwin.specs.Cases.{update-cases}
 
--- ---- a NaN goes through every operation
-add-nan : (x : Float) → x ⊕ nan ≡ nan
-unfolding add
-add-nan nan = refl
-add-nan (inf s) = refl
-add-nan (fin s m e) = refl
-
-mul-nan : (x : Float) → x ⊗ nan ≡ nan
-unfolding mul
-mul-nan nan = refl
-mul-nan (inf s) = refl
-mul-nan (fin s m e) = refl
-
-div-nan : (x : Float) → x ⊘ nan ≡ nan
-unfolding div
-div-nan nan = refl
-div-nan (inf s) = refl
-div-nan (fin s m e) = refl
-
-not-above-nan : (x : Float) → lt nan x ≡ false
-unfolding lt
-not-above-nan nan = refl
-not-above-nan (inf s) = refl
-not-above-nan (fin s m e) = refl
-
+-- ---- a NaN goes through ln and the bound
 ln-nan : lnOf nan ≡ nan
 unfolding lnOf le ofBits
 ln-nan = refl
@@ -66,7 +43,8 @@ none-fails : (c : CutTest) → c .g ≡ nan → (n0 t0 : Float) (l : List Bucket
 unfolding someFails
 none-fails c e n0 t0 [] = refl
 none-fails c e n0 t0 (b ∷ newer) =
-    ap (λ (t : Bool). cond t true (someFails c (n0 ⊕ b .size) (t0 ⊕ b .total) newer)) (no-cut c e (n0 ⊕ b .size) (t0 ⊕ b .total)) ∙ none-fails c e (n0 ⊕ b .size) (t0 ⊕ b .total) newer
+    ap (λ (t : Bool). cond t true (someFails c (n0 ⊕ b .size) (t0 ⊕ b .total) newer)) (no-cut c e (n0 ⊕ b .size) (t0 ⊕ b .total))
+    ∙ none-fails c e (n0 ⊕ b .size) (t0 ⊕ b .total) newer
 
 nothing-due : (s : Sums) (l : List Bucket) → mustDrop nan s l ≡ false
 unfolding mustDrop
@@ -86,13 +64,17 @@ record Silent (o : Outcome) : Type 0 where
   alarm : o .alarm ≡ false
   delta : o .window .delta ≡ nan
 
+no-drop : (d : Float) (s : Sums) (held : List Classed) → d ≡ nan → not (isEmpty (searchOf d s held .dropped)) ≡ false
+no-drop d s held h =
+    ap (λ (q : Float). not (isEmpty (searchOf q s held .dropped))) h ∙ ap (λ (q : Searched). not (isEmpty (q .dropped))) (nothing-dropped s held)
+
 silent : (w : Window) (x : Float) → w .delta ≡ nan → Silent (updateOf w x)
 unfolding grown shrunk
 silent w x h =
     update-cases w x (λ (o : Outcome) (l : List Classed). Silent o) (λ e. record { alarm = refl; delta = h }) (λ e r. record { alarm = refl; delta = h })
     (λ e r i. record { alarm = refl; delta = h })
     (λ e r i. record {
-      alarm = ap (λ (d : Float). not (isEmpty (searchOf d (grown w x .sums) (grown w x .held) .dropped))) h ∙ ap (λ (q : Searched). not (isEmpty (q .dropped))) (nothing-dropped (grown w x .sums) (grown w x .held));
+      alarm = no-drop (w .delta) (grown w x .sums) (grown w x .held) h;
       delta = h;
     })
 

@@ -59,5 +59,7 @@ module _ {S : Type 0} (drift : S → Monitor) (nearest : S → List Float → Ne
           omega (arith, f .0)
 
 -- so its window refuses no value
-pub window-takes : (n : ℕ) (m : Monitor) (nearest : List Float → Nearest) (radius : Float) (l : List Seen) → n ≤ limit → Early n m nearest → Heard radius l m → (v : Float) → updateOf (m .window) v .refusal ≡ 0
+pub window-takes :
+    (n : ℕ) (m : Monitor) (nearest : List Float → Nearest) (radius : Float) (l : List Seen) → n ≤ limit → Early n m nearest → Heard radius l m → (v : Float) →
+    updateOf (m .window) v .refusal ≡ 0
 window-takes n m nearest radius l h e heard v = not-refused (m .window) v (⊎-elim (λ f. omega arith) (λ f. omega (arith, f .0)) e) (heard .told .neverFull)

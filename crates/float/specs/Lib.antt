@@ -1,5 +1,6 @@
 pub mod Rounded
 pub mod Order
+pub mod Nan
 pub mod Cut
 pub mod Cutting
 pub mod TwoTo

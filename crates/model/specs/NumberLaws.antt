@@ -26,7 +26,9 @@ first-no : {A B : Type 0} (f : A → B) (qs : List (Bool × A)) (a : A) → f (f
 first-no {A} f [] a = refl
 first-no {A} f (q ∷ qs) a = go (q .0) (first-no f qs a)
   where
-    go : (b : Bool) → f (firstNo qs a) ≡ firstNo (map (λ (q : Bool × A). (q .0, f (q .1))) qs) (f a) → f (cond b (firstNo qs a) (q .1)) ≡ cond b (firstNo (map (λ (q : Bool × A). (q .0, f (q .1))) qs) (f a)) (f (q .1))
+    go :
+        (b : Bool) → f (firstNo qs a) ≡ firstNo (map (λ (q : Bool × A). (q .0, f (q .1))) qs) (f a) →
+        f (cond b (firstNo qs a) (q .1)) ≡ cond b (firstNo (map (λ (q : Bool × A). (q .0, f (q .1))) qs) (f a)) (f (q .1))
     go true h = h
     go false h = refl
 
@@ -43,21 +45,29 @@ insertion-said {S} dim got t place came taken o e =
     ap (λ (q : Outcome S). insertionSaid (q .answer)) e ∙ ap insertionSaid (answered (insertionAsked dim got t place) came taken)
     ∙ first-no insertionSaid ((eqb got dim, Shape dim got) ∷ (lt t clockLimit, ClockAtLimit) ∷ (place, NoPlace) ∷ []) Done
 
-pub db-opening-said : (p : db.Settings) (o : Opened db.State) → o ≡ db.openOf p → openingNumber (o .answer) ≡ dbOpeningNo (p .dim) (p .r) (p .lambda) (p .alpha) (p .minWeight)
+pub db-opening-said :
+    (p : db.Settings) (o : Opened db.State) → o ≡ db.openOf p →
+    openingNumber (o .answer) ≡ dbOpeningNo (p .dim) (p .r) (p .lambda) (p .alpha) (p .minWeight)
 unfolding db.asked
 db-opening-said p o e =
     ap (λ (q : Opened db.State). openingNumber (q .answer)) e ∙ first-no openingNumber (questions (p .dim) (p .r) (p .lambda) (p .alpha) (p .minWeight)) Open
 
-pub den-opening-said : (p : den.Settings) (o : Opened den.State) → o ≡ den.openOf p → openingNumber (o .answer) ≡ denOpeningNo (p .dim) (p .eps) (p .lambda) (p .beta) (p .mu)
+pub den-opening-said :
+    (p : den.Settings) (o : Opened den.State) → o ≡ den.openOf p →
+    openingNumber (o .answer) ≡ denOpeningNo (p .dim) (p .eps) (p .lambda) (p .beta) (p .mu)
 unfolding den.asked
 den-opening-said p o e =
     ap (λ (q : Opened den.State). openingNumber (q .answer)) e
     ∙ first-no openingNumber (questions (p .dim) (p .eps) (p .lambda) (p .beta) (p .mu) ++ (lt one (bmOf (p .beta) (p .mu)), BetaMu) ∷ []) Open
 
-pub db-insertion-said : (s : db.State) (x : List Float) (o : Outcome db.State) → o ≡ db-insert.insertOf s x → insertionSaid (o .answer) ≡ insertionNo (s .settings .dim) (length x) (s .t) (db-insert.hasPlace s x)
+pub db-insertion-said :
+    (s : db.State) (x : List Float) (o : Outcome db.State) → o ≡ db-insert.insertOf s x →
+    insertionSaid (o .answer) ≡ insertionNo (s .settings .dim) (length x) (s .t) (db-insert.hasPlace s x)
 unfolding db-insert.insertOf
 db-insertion-said s x o e = insertion-said (s .settings .dim) (length x) (s .t) (db-insert.hasPlace s x) s (db-insert.takenOf s x) o e
 
-pub den-insertion-said : (s : den.State) (x : List Float) (o : Outcome den.State) → o ≡ den-insert.insertOf s x → insertionSaid (o .answer) ≡ insertionNo (s .params .dim) (length x) (s .t) (den-insert.hasPlace s x)
+pub den-insertion-said :
+    (s : den.State) (x : List Float) (o : Outcome den.State) → o ≡ den-insert.insertOf s x →
+    insertionSaid (o .answer) ≡ insertionNo (s .params .dim) (length x) (s .t) (den-insert.hasPlace s x)
 unfolding den-insert.insertOf
 den-insertion-said s x o e = insertion-said (s .params .dim) (length x) (s .t) (den-insert.hasPlace s x) s (den-insert.takenOf s x) o e
