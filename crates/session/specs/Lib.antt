@@ -6,5 +6,6 @@ pub mod Cases
 pub mod DbTold
 pub mod DenTold
 pub mod Demand3
+pub mod Runs
 pub mod DbRuns
 pub mod DenRuns
