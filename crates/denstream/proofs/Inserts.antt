@@ -14,18 +14,22 @@ use Rattle.model.specs.DenState.{State}
 use Rattle.model.specs.DenInsert.{tickOf, takenOf, hasPlace, insertOf}
 use Rattle.pool.specs.Held.{microIn}
 use Rattle.placement.specs.declared.choice.Placement.{Placement}
-use Rattle.placement.specs.Placing.{takes, pooledAt, Placing}
+use Rattle.placement.specs.Placing.{takes, pooledAt, placementOf, placementTold}
+use Rattle.placement.specs.PlacingLaws.{Placing, placing-law}
 
 -- what is known once the point x is measured, of which y is what was placed: p is its placement, and a the answer
 pub record Met (s : State) (x y : List Float) (d : ℕ) (p : Placement) (a : Insertion) : Type 0 where
   pub coordinates : d ≡ s .params .dim
   pub point : length x ≡ d → y ≡ x
-  pub placing : Placing s y p
+  pub placement : placementTold (s .params .dim) p ≡ placementOf (s .params) (s .t) (s .potential) (s .outliers) y
   pub answer : a ≡ insertionAsked d (length x) (s .t) (takes (p .target))
 
 module _ {s : State} {x y : List Float} {d : ℕ} {p : Placement} {a : Insertion} (m : Met s x y d p a) where
-  met : length x ≡ d → Placing s x p
-  met h = subst (λ (z : List Float). Placing s z p) (m .point h) (m .placing)
+  pub placing : Placing s y (placementTold (s .params .dim) p)
+  placing = subst (Placing s y) (sym (m .placement)) (placing-law s y)
+
+  met : length x ≡ d → Placing s x (placementTold (s .params .dim) p)
+  met h = subst (λ (z : List Float). Placing s z (placementTold (s .params .dim) p)) (m .point h) placing
 
   pub room : (b : Bool) → b ≡ isDone a → b ≡ true → takes (p .target) ≡ true
   room b h q = taken-asks d (length x) (s .t) (takes (p .target)) a (m .answer) (sym h ∙ q) .1
@@ -36,6 +40,7 @@ module _ {s : State} {x y : List Float} {d : ℕ} {p : Placement} {a : Insertion
       record { answer = a; stream = v } ≡ insertOf s x
   unfolding insertOf
   inserted b v eb ev =
-      inserted-by d (length x) (s .t) (takes (p .target)) (hasPlace s x) s (takenOf s x) (tickOf (pooledAt (p .target) (p .place) (microIn (s .params .dim) (p .micro)) s) (p .near)) v a b (λ h. met h .fits) (m .answer) eb ev
+      inserted-by d (length x) (s .t) (takes (p .target)) (hasPlace s x) s (takenOf s x)
+      (tickOf (pooledAt (p .target) (p .place) (microIn (s .params .dim) (p .micro)) s) (p .near)) v a b (λ h. met h .fits) (m .answer) eb ev
       (λ h q. ap₂ tickOf (met h .placed q) (met h .near))
       ∙ ap (λ (n : ℕ). outcome (insertionAsked n (length x) (s .t) (hasPlace s x)) s (takenOf s x)) (m .coordinates)

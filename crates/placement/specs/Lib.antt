@@ -1,3 +1,4 @@
 pub mod Pools
 pub mod Placing
+pub mod PlacingLaws
 pub mod PoolLaws

@@ -1,21 +1,53 @@
--- A placement as document 01's definitions have it. Definitions only.
+-- Where a point goes, and what that makes of the pools. Definitions only.
 use Prim.Native.Nat.{ℕ, _+_, _<_}
-use mathlib.Core.Path.{_≡_}
-use mathlib.Core.Bool.{Bool, true, false}
+use mathlib.Core.Bool.{Bool, true, false, cond}
 use mathlib.Core.List.{List, [], _∷_, _++_}
-use lib.Ieee.{Float}
+use lib.Dec.{ltb}
+use lib.Ieee.{Float, le}
 use lib.ListN.{length, set}
 use Rattle.lists.specs.Retain.{without}
+use Rattle.drift.specs.declared.Nearest.{Nearest}
 use Rattle.model.specs.declared.micro.Micro.{Micro}
+use Rattle.model.specs.declared.params.Params.{Params}
 use Rattle.model.specs.Limits.{microsMost}
 use Rattle.model.specs.DenState.{State}
-use Rattle.model.specs.DenInsert as doc
-use Rattle.model.specs.DenInsert.{pooled, nearestFor, hasPlace}
+use Rattle.model.specs.DenInsert.{pooled, newborn, smallerOf}
+use Rattle.pool.specs.declared.trial.Trial.{Trial}
 use Rattle.pool.specs.Held.{microIn}
+use Rattle.pool.specs.Tried.{triedOf}
 use Rattle.placement.specs.declared.choice.Target.{Target}
 use Rattle.placement.specs.declared.choice.Target.the-variants.{Potential, Promotion, Outlier, Newborn, Nowhere}
 use Rattle.placement.specs.declared.choice.Placement.{Placement}
 
+-- ---- the placement of a point
+-- "and moves to the end of the potential list if w ≥ bm"
+abbrev pub grownTo : (bm : Float) → Micro → Target
+grownTo bm m = cond (le bm (m .cf .w)) Promotion Outlier
+
+-- "Else the nearest outlier is tried likewise .. Else a new outlier goes to the end of the outliers", if there is room; where none absorbs, the place is 0
+abbrev pub elseBy : Params → (t : Float) → List Float → (room : Bool) → Nearest → (outlier : Trial) → Placement
+elseBy p t x room near b =
+    cond (b .stands) (record { target = grownTo (p .bm) (b .micro); place = b .place; micro = b .micro; near = near })
+    (record { target = cond room Newborn Nowhere; place = 0; micro = newborn (p .dim) t x; near = near })
+
+-- "The nearest potential one is tried first"; the drift distance is "the potential pool's if it merged there, else the smaller of both"
+abbrev pub placementBy : Params → (t : Float) → List Float → (room : Bool) → (potential outlier : Trial) → Placement
+placementBy p t x room a b =
+    cond (a .stands) (record { target = Potential; place = a .place; micro = a .micro; near = a .near })
+    (elseBy p t x room (smallerOf (a .near) (b .near)) b)
+
+-- "are fewer than 64 micro-clusters held (DenStream: both pools together)?"
+abbrev pub hasRoom : (potential outliers : List Micro) → Bool
+hasRoom potential outliers = ltb (length potential + length outliers) microsMost
+
+abbrev pub placementOf : Params → (t : Float) → (potential outliers : List Micro) → List Float → Placement
+placementOf p t potential outliers x = placementBy p t x (hasRoom potential outliers) (triedOf p t x potential) (triedOf p t x outliers)
+
+-- a placement whose micro-cluster is kept in 15 places, as that of dim coordinates which it is
+abbrev pub placementTold : (dim : ℕ) → Placement → Placement
+placementTold dim r = record { target = r .target; place = r .place; micro = microIn dim (r .micro); near = r .near }
+
+-- ---- what a target makes of the pools
 abbrev pub takes : Target → Bool
 takes Potential = true
 takes Promotion = true
@@ -38,10 +70,3 @@ Ready Promotion place s = place < length (s .outliers)
 Ready Outlier place s = place < length (s .outliers)
 Ready Newborn place s = length (s .potential) + length (s .outliers) < microsMost
 Ready Nowhere place s = Unit {0}
-
--- the placement of the point x in the stream s
-pub record Placing (s : State) (x : List Float) (r : Placement) : Type 0 where
-  pub fits : takes (r .target) ≡ hasPlace s x
-  pub near : r .near ≡ nearestFor s x
-  pub placed : takes (r .target) ≡ true → pooledAt (r .target) (r .place) (microIn (s .params .dim) (r .micro)) s ≡ doc.placed s x
-  pub ready : Ready (r .target) (r .place) s

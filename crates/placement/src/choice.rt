@@ -6,18 +6,12 @@ use feature::MAX_DIM;
 use model::MICROS;
 use model::Micro;
 use model::Params;
-ghost use Prim.Native.Nat.{min};
 ghost use mathlib.Core.Path.{_≡_};
-ghost use mathlib.Core.Bool.{cond};
-ghost use mathlib.Core.List.{List};
-ghost use lib.IntN.{ℤ};
-ghost use lib.Ieee.{le};
 ghost use lib.ListN.{take};
-ghost use Rattle.feature.specs.Feature.{maxDim};
-ghost use Rattle.drift.specs.Monitor.{Monitor};
 ghost use Rattle.model.specs.DenInsert.{smallerOf};
-ghost use Rattle.placement.specs.Pools.{stateOf};
-ghost use Rattle.placement.specs.Placing.{takes, Placing};
+ghost use Rattle.pool.specs.Held.{dimOf, settledOf};
+ghost use Rattle.placement.specs.Pools.{potentialIn, outliersIn};
+ghost use Rattle.placement.specs.Placing.{takes, grownTo, placementOf, placementTold};
 
 // What a point does to the pools: a potential one absorbs it; an outlier does, and moves to the potential ones or
 // stays; a new outlier comes; or both pools are full.
@@ -85,7 +79,7 @@ fn smaller(potential: Nearest, outlier: Nearest) -> Nearest
 
 // Where an outlier that absorbed the point belongs.
 fn grown(m: Micro, bm: f64) -> Target
-    ensures { λ r. ⌜ r ≡ cond (le bm (m .cf .w)) Target.Promotion Target.Outlier ⌝ }
+    ensures { λ r. ⌜ r ≡ grownTo bm m ⌝ }
 {
     let cf = m.cf;
     if bm <= cf.w {
@@ -103,7 +97,9 @@ pub fn place(
     t: f64,
     x: [f64; MAX_DIM],
 ) -> Placement
-    ensures { λ r. ⌜ ((labels : List ℤ) (drift : Monitor) → Placing (stateOf params t potential «potential_count» outliers «outlier_count» labels drift) (take (min (params .dim) maxDim) x) r) ⌝ }
+    ensures { λ r. ⌜ placementTold (dimOf params) r
+        ≡ placementOf (settledOf params) t (potentialIn params potential «potential_count»)
+        (outliersIn params outliers «potential_count» «outlier_count») (take (dimOf params) x) ⌝ }
 {
     let np = potential_held(potential_count);
     let p = pool::try_merge(potential, np, params, t, x);

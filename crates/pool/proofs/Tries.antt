@@ -1,84 +1,75 @@
 -- The code's trial of the nearest is the definition's. Assumes nothing.
-use Prim.Native.Nat.{ℕ, _<_}
+use Prim.Native.Nat.{ℕ, _≤_, _<_}
 use mathlib.Core.Path.{_≡_, sym, ap, _∙_}
-use mathlib.Core.Bool.{Bool, false, cond}
+use mathlib.Core.Bool.{Bool, false}
 use mathlib.Core.List.{List, map, map-map}
-use mathlib.Core.Option.{Option, none, some}
+use mathlib.Core.Option.{some}
 use native.Mathlib.Omega.{arith}
 use lib.Ieee.{Float}
 use lib.ListN.{length, take, getD, length-take, length-map, List·getD-map}
-use lib.Seq.{getD-take}
-use Rattle.feature.specs.declared.spherical.Spherical.{Spherical}
-use Rattle.feature.specs.Feature.{decayed}
-use Rattle.feature.specs.Fade.{fadeOf}
-use Rattle.feature.specs.Within.{pushed-within}
+use lib.Seq.{getD-take, length-take-le}
+use Rattle.feature.specs.Feature.{maxDim}
 use Rattle.drift.specs.declared.Nearest.the-variants as nearest
 use Rattle.model.specs.declared.micro.Micro.{Micro}
 use Rattle.model.specs.declared.params.Params.{Params}
-use Rattle.model.specs.Nearest.{Near}
 use Rattle.model.specs.Fading.{distanceTo}
-use Rattle.model.specs.DenInsert.{nearestIn, trial, distanceOf, absorbing, stands}
+use Rattle.model.specs.DenInsert.{nearestIn, absorbing, stands, newborn}
 use Rattle.readout.specs.declared.distances.Found.{Found}
 use Rattle.readout.specs.declared.distances.Found.the-variants.{Nothing, At}
 use Rattle.readout.specs.Found.{foundOf, nearestAmong}
 use Rattle.readout.specs.NearestLaws.{nearest-measured, found-at, found-nothing}
 use Rattle.pool.specs.Held.{microIn, seen, distanceIn}
-use Rattle.pool.specs.Tried.{Tried, triedOf, trialTold}
+use Rattle.pool.specs.Tried.{triedBy, triedOf, trialTold}
+use Rattle.pool.specs.TriedLaws.{newborn-in, absorbing-in}
 
--- a copy that absorbed a point of dim coordinates
-absorbing-in : (dim : ℕ) (lambda t : Float) (x : List Float) (m : Micro) → length x ≡ dim → microIn dim (absorbing lambda t x m) ≡ absorbing lambda t x (microIn dim m)
-absorbing-in dim lambda t x m h =
-    ap (λ (s : Spherical). record { cf = s; last = t; t0 = m .t0 }) (pushed-within dim (decayed (m .cf) (fadeOf lambda t (m .last))) x h)
-
--- what the search among the distances measured finds
-module _ (dim : ℕ) (point : List Float) (n : ℕ) (pool : List Micro) (ds : List Float) (measured : ds ≡ map (distanceIn dim (take dim point)) (take n pool)) (found : Found) (among : found ≡ nearestAmong ds) where
+-- what the search among the distances measured finds; dim is the code's cut
+module _ (p : Params) (low : p .dim ≤ maxDim) (dim : ℕ) (c : dim ≡ p .dim) (point : List Float) (size : length point ≡ maxDim) (n : ℕ) (pool : List Micro)
+    (ds : List Float) (measured : ds ≡ map (distanceIn dim (take dim point)) (take n pool)) (found : Found) (among : found ≡ nearestAmong ds) where
   abbrev x : List Float
-  x = take dim point
+  x = take (p .dim) point
 
   abbrev l : List Micro
-  l = seen dim n pool
+  l = seen (p .dim) n pool
 
   abbrev distance : Micro → Float
   distance m = distanceTo x (m .cf)
 
-  found-is : found ≡ foundOf (nearestIn x l)
-  found-is = among ∙ nearest-measured distance l ds (measured ∙ sym (map-map distance (microIn dim) (take n pool)))
+  x-size : length x ≡ p .dim
+  x-size = length-take-le (p .dim) point (omega arith)
 
-  pub told-none :
-      (d : ℕ) (params : Params) (t : Float) (m : Micro) → dim ≡ d → found ≡ Nothing →
-      trialTold d (record { near = nearest.Nothing; stands = false; place = 0; micro = m }) ≡ triedOf params t (take d point) (seen d n pool)
-  told-none d params t m c e =
-      ap (λ (o : Option (Near Micro)). record { near = distanceOf o; taken = trial params t x o }) (sym (found-nothing distance l (sym found-is ∙ e)))
-      ∙ ap (λ (k : ℕ). triedOf params t (take k point) (seen k n pool)) c
+  found-is : found ≡ foundOf (nearestIn x l)
+  found-is =
+      among
+      ∙ nearest-measured distance l ds
+      (measured ∙ ap (λ (k : ℕ). map (distanceIn k (take k point)) (take n pool)) c ∙ sym (map-map distance (microIn (p .dim)) (take n pool)))
+
+  pub tried-none :
+      (t : Float) (m : Micro) → m ≡ newborn maxDim t (take dim point) → found ≡ Nothing →
+      trialTold (p .dim) (record { near = nearest.Nothing; stands = false; place = 0; micro = m }) ≡ triedOf p t x l
+  tried-none t m w e =
+      ap (λ (k : Micro). record { near = nearest.Nothing; stands = false; place = 0; micro = k })
+      (newborn-in (p .dim) t x m x-size low (w ∙ ap (λ (k : ℕ). newborn maxDim t (take k point)) c))
+      ∙ ap (triedBy p t x) (sym (found-nothing distance l (sym found-is ∙ e)))
 
   module _ (place : ℕ) (dist : Float) (e : found ≡ At place dist) where
-    pub found-low : place < n
-    found-low =
-        omega (arith, found-at distance l place dist (sym found-is ∙ e) .low, length-map (take n pool) (microIn dim), length-take n pool)
+    found-low : place < n
+    found-low = omega (arith, found-at distance l place dist (sym found-is ∙ e) .low, length-map (take n pool) (microIn (p .dim)), length-take n pool)
 
     pub found-here : place < length pool
-    found-here =
-        omega (arith, found-at distance l place dist (sym found-is ∙ e) .low, length-map (take n pool) (microIn dim), length-take n pool)
+    found-here = omega (arith, found-at distance l place dist (sym found-is ∙ e) .low, length-map (take n pool) (microIn (p .dim)), length-take n pool)
 
-    found-some : (z : Micro) → nearestIn x l ≡ some (record { place = place; micro = microIn dim (getD pool place z); dist = dist })
+    found-some : (z : Micro) → nearestIn x l ≡ some (record { place = place; micro = microIn (p .dim) (getD pool place z); dist = dist })
     found-some z =
-        found-at distance l place dist (sym found-is ∙ e) .is (microIn dim z)
+        found-at distance l place dist (sym found-is ∙ e) .is (microIn (p .dim) z)
         ∙ ap (λ (m : Micro). some (record { place = place; micro = m; dist = dist }))
-        (List·getD-map (microIn dim) (take n pool) place z ∙ ap (microIn dim) (getD-take n pool place z found-low))
+        (List·getD-map (microIn (p .dim)) (take n pool) place z ∙ ap (microIn (p .dim)) (getD-take n pool place z found-low))
 
-    pub told-some :
-        (d : ℕ) (params : Params) (t : Float) (z copy : Micro) (st : Bool) → dim ≡ d → length x ≡ dim → copy ≡ absorbing (params .lambda) t x (getD pool place z) → st ≡ stands (params .eps2) copy →
-        trialTold d (record { near = nearest.Distance dist; stands = st; place = place; micro = copy }) ≡ triedOf params t (take d point) (seen d n pool)
-    told-some d params t z copy st c h e s =
-        ap (λ (k : ℕ). trialTold k (record { near = nearest.Distance dist; stands = st; place = place; micro = copy })) (sym c)
-        ∙ ap (λ (b : Bool). as-tried (cond b (some (near (microIn dim copy))) none)) s
-        ∙ ap (λ (k : Micro). as-tried (cond (stands (params .eps2) k) (some (near k)) none))
-        (ap (microIn dim) e ∙ absorbing-in dim (params .lambda) t x (getD pool place z) h)
-        ∙ ap (λ (o : Option (Near Micro)). record { near = distanceOf o; taken = trial params t x o }) (sym (found-some z))
-        ∙ ap (λ (k : ℕ). triedOf params t (take k point) (seen k n pool)) c
-      where
-        near : Micro → Near Micro
-        near m = record { place = place; micro = m; dist = dist }
-
-        as-tried : Option (Near Micro) → Tried
-        as-tried o = record { near = nearest.Distance dist; taken = o }
+    pub tried-some :
+        (t : Float) (z copy : Micro) (st : Bool) → copy ≡ absorbing (p .lambda) t (take dim point) (getD pool place z) → st ≡ stands (p .eps2) copy →
+        trialTold (p .dim) (record { near = nearest.Distance dist; stands = st; place = place; micro = copy }) ≡ triedOf p t x l
+    tried-some t z copy st w s =
+        ap (λ (b : Bool). record { near = nearest.Distance dist; stands = b; place = place; micro = microIn (p .dim) copy }) s
+        ∙ ap (λ (k : Micro). record { near = nearest.Distance dist; stands = stands (p .eps2) k; place = place; micro = k })
+        (ap (microIn (p .dim)) (w ∙ ap (λ (k : ℕ). absorbing (p .lambda) t (take k point) (getD pool place z)) c)
+        ∙ absorbing-in (p .dim) (p .lambda) t x (getD pool place z) x-size)
+        ∙ ap (triedBy p t x) (sym (found-some z))

@@ -1,16 +1,25 @@
 -- What of a pool is held: the first of its array, of each micro-cluster the coordinates that a point has. Definitions only.
-use Prim.Native.Nat.{ℕ}
+use Prim.Native.Nat.{ℕ, min}
 use mathlib.Core.List.{List, map}
 use lib.Ieee.{Float}
 use lib.ListN.{take}
 use Rattle.feature.specs.declared.spherical.Spherical.{Spherical}
-use Rattle.feature.specs.Feature.{within}
+use Rattle.feature.specs.Feature.{maxDim, within}
 use Rattle.model.specs.declared.micro.Micro.{Micro}
+use Rattle.model.specs.declared.params.Params.{Params}
 use Rattle.model.specs.Fading.{distanceTo}
 use Rattle.pool.specs.declared.pool.Pool.{Pool}
 
 abbrev pub held : Pool → List Micro
 held p = take (p .count) (p .micros)
+
+-- never more than 15 coordinates
+abbrev pub dimOf : Params → ℕ
+dimOf p = min (p .dim) maxDim
+
+abbrev pub settledOf : Params → Params
+settledOf p =
+    record { dim = dimOf p; eps2 = p .eps2; lambda = p .lambda; bm = p .bm; mu = p .mu; tp = p .tp }
 
 -- a micro-cluster kept in 15 places, as that of dim coordinates which it is
 abbrev pub microIn : (dim : ℕ) → Micro → Micro

@@ -1,34 +1,27 @@
--- A trial as document 01's definitions have it. Definitions only.
+-- The trial of a pool's nearest. Definitions only.
 use Prim.Native.Nat.{ℕ}
-use mathlib.Core.Bool.{cond}
+use mathlib.Core.Bool.{false}
 use mathlib.Core.List.{List}
 use mathlib.Core.Option.{Option, none, some}
 use lib.Ieee.{Float}
-use Rattle.float.specs.Rounded.{nought}
-use Rattle.drift.specs.declared.Nearest.{Nearest}
 use Rattle.drift.specs.declared.Nearest.the-variants.{Nothing, Distance}
 use Rattle.model.specs.declared.micro.Micro.{Micro}
 use Rattle.model.specs.declared.params.Params.{Params}
 use Rattle.model.specs.Nearest.{Near}
-use Rattle.model.specs.DenInsert.{nearestIn, trial, distanceOf}
+use Rattle.model.specs.DenInsert.{nearestIn, absorbing, stands, newborn}
 use Rattle.pool.specs.declared.trial.Trial.{Trial}
 use Rattle.pool.specs.Held.{microIn}
 
--- a pool's nearest distance, and the nearest's copy if it stands
-pub record Tried : Type 0 where
-  pub near : Nearest
-  pub taken : Option (Near Micro)
+-- "a copy faded to t absorbs the point and stands if w > 0 and ssd/w ≤ eps×eps"; without a nearest, the point alone at place 0
+abbrev pub triedBy : Params → (t : Float) → List Float → Option (Near Micro) → Trial
+triedBy p t x none = record { near = Nothing; stands = false; place = 0; micro = newborn (p .dim) t x }
+triedBy p t x (some b) =
+    let copy : Micro = absorbing (p .lambda) t x (b .micro) in
+    record { near = Distance (b .dist); stands = stands (p .eps2) copy; place = b .place; micro = copy }
 
-abbrev pub triedOf : Params → (t : Float) → List Float → List Micro → Tried
-triedOf p t x pool = record { near = distanceOf (nearestIn x pool); taken = trial p t x (nearestIn x pool) }
+abbrev pub triedOf : Params → (t : Float) → List Float → List Micro → Trial
+triedOf p t x pool = triedBy p t x (nearestIn x pool)
 
-abbrev pub squared : Nearest → Float
-squared Nothing = nought
-squared (Distance d) = d
-
--- the one that takes the point, as the code's struct has it
-abbrev pub takerTold : (dim : ℕ) → Trial → Near Micro
-takerTold dim r = record { place = r .place; micro = microIn dim (r .micro); dist = squared (r .near) }
-
-abbrev pub trialTold : (dim : ℕ) → Trial → Tried
-trialTold dim r = record { near = r .near; taken = cond (r .stands) (some (takerTold dim r)) none }
+-- a trial whose micro-cluster is kept in 15 places, as that of dim coordinates which it is
+abbrev pub trialTold : (dim : ℕ) → Trial → Trial
+trialTold dim r = record { near = r .near; stands = r .stands; place = r .place; micro = microIn dim (r .micro) }

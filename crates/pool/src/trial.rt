@@ -9,12 +9,9 @@ use model::MICROS;
 use model::Micro;
 use model::Params;
 use readout::Found;
-ghost use Prim.Native.Nat.{_<_, min};
 ghost use mathlib.Core.Path.{_≡_};
-ghost use mathlib.Core.Bool.{true};
 ghost use lib.ListN.{take};
-ghost use Rattle.feature.specs.Feature.{maxDim};
-ghost use Rattle.pool.specs.Held.{seen};
+ghost use Rattle.pool.specs.Held.{dimOf, settledOf, seen};
 ghost use Rattle.pool.specs.Tried.{triedOf, trialTold};
 
 pub struct Trial {
@@ -33,8 +30,7 @@ pub fn try_merge(
     t: f64,
     x: [f64; MAX_DIM],
 ) -> Trial
-    ensures { λ r. ⌜ trialTold (min (params .dim) maxDim) r ≡ triedOf params t (take (min (params .dim) maxDim) x) (seen (min (params .dim) maxDim) n pool) ⌝ }
-    ensures low { λ r. ⌜ (r .stands ≡ true → r .place < n) ⌝ }
+    ensures { λ r. ⌜ trialTold (dimOf params) r ≡ triedOf (settledOf params) t (take (dimOf params) x) (seen (dimOf params) n pool) ⌝ }
 {
     let dim = lists::cut(params.dim, MAX_DIM);
     let found = readout::nearest(distances(pool, n, x, dim), n);

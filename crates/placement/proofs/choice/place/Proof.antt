@@ -24,9 +24,9 @@ returns : tie.Need-returns
 returns c =
     let k = c .before .before .before .before in
     let a = k .before .args in
-    let z = sizes (k .before) in
     let p = c .before .before .before .try-merge in
-    placed-potential (a .params) (a .t) (a .potential) (a .potential-count) (a .outliers) (a .outlier-count) (a .x) (z .0) (z .1) (z .2) _ (k .potential-held .ensures) (p .result) (p .ensures .0) (p .ensures .1)
+    placed-potential (a .params) (a .t) (a .x) (a .potential) (a .potential-count) (a .outliers) (a .outlier-count)
+    _ (k .potential-held .ensures) (p .result) (p .ensures)
     (c .new .result) (c .new .ensures) (c .before .before .if1 .taken)
 
 outliers-held-requires : tie.Need-outliers-held-requires
@@ -48,11 +48,13 @@ returns-2 : tie.Need-returns-2
 returns-2 c =
     let k = c .before .before .before .before .before .before .before .before .before in
     let a = k .before .args in
-    let z = sizes (k .before) in
     let p = c .before .before .before .before .before .before .before .before .try-merge in
     let o = c .before .before .before .before .before .try-merge2 in
-    placed-outlier (a .params) (a .t) (a .potential) (a .potential-count) (a .outliers) (a .outlier-count) (a .x) (z .0) (z .1) (z .2) _ (k .potential-held .ensures) (p .result) (p .ensures .0) (p .ensures .1)
-    (c .before .before .before .before .before .before .before .if1 .left) _ (c .before .before .before .before .before .before .outliers-held .ensures) (o .result) (o .ensures .0) (o .ensures .1) _ (c .before .before .before .before .smaller .ensures) (c .new2 .result) _ (c .before .grown .ensures) (c .new2 .ensures) (c .before .before .before .if2 .taken)
+    placed-outlier (a .params) (a .t) (a .x) (a .potential) (a .potential-count) (a .outliers) (a .outlier-count)
+    _ (k .potential-held .ensures) (p .result) (p .ensures)
+    (c .before .before .before .before .before .before .before .if1 .left) _ (c .before .before .before .before .before .before .outliers-held .ensures)
+    (o .result) (o .ensures) _ (c .before .before .before .before .smaller .ensures) (c .new2 .result) _ (c .before .grown .ensures)
+    (c .new2 .ensures) (c .before .before .before .if2 .taken)
 
 cut-requires : tie.Need-cut-requires
 cut-requires c κs = search needs
@@ -73,8 +75,13 @@ returns-3 c =
     let z = sizes (k .before) in
     let p = c .before .before .before .before .before .before .before .before .before .try-merge in
     let o = c .before .before .before .before .before .before .try-merge2 in
-    placed-newborn (a .params) (a .t) (a .potential) (a .potential-count) (a .outliers) (a .outlier-count) (a .x) (z .0) (z .1) (z .2) _ (k .potential-held .ensures) (p .result) (p .ensures .0) (p .ensures .1)
-    (c .before .before .before .before .before .before .before .before .if1 .left) _ (c .before .before .before .before .before .before .before .outliers-held .ensures) (o .result) (o .ensures .0) (o .ensures .1) _ (c .before .before .before .before .before .smaller .ensures) (c .new3 .result) _ _ (c .before .before .before .cut .ensures) (c .before .before .newborn .ensures) (c .new3 .ensures) (c .before .before .before .before .if2 .left) (c .before .if3 .taken)
+    placed-newborn (a .params) (a .t) (a .x) (a .potential) (a .potential-count) (a .outliers) (a .outlier-count)
+    _ (k .potential-held .ensures) (p .result) (p .ensures)
+    (c .before .before .before .before .before .before .before .before .if1 .left)
+    _ (c .before .before .before .before .before .before .before .outliers-held .ensures)
+    (o .result) (o .ensures) _ (c .before .before .before .before .before .smaller .ensures) (c .new3 .result)
+    (z .0) (z .1) (z .2) _ (c .before .before .before .cut .ensures) _ (c .before .before .newborn .ensures)
+    (c .before .before .before .before .if2 .left) (c .new3 .ensures) (c .before .if3 .taken)
 
 new-requires-4 : tie.Need-new-requires-4
 new-requires-4 c κs = search needs
@@ -86,8 +93,13 @@ returns-4 c =
     let z = sizes (k .before) in
     let p = c .before .before .before .before .before .before .before .before .before .try-merge in
     let o = c .before .before .before .before .before .before .try-merge2 in
-    placed-nowhere (a .params) (a .t) (a .potential) (a .potential-count) (a .outliers) (a .outlier-count) (a .x) (z .0) (z .1) (z .2) _ (k .potential-held .ensures) (p .result) (p .ensures .0) (p .ensures .1)
-    (c .before .before .before .before .before .before .before .before .if1 .left) _ (c .before .before .before .before .before .before .before .outliers-held .ensures) (o .result) (o .ensures .0) (o .ensures .1) _ (c .before .before .before .before .before .smaller .ensures) (c .new4 .result) _ (c .new4 .ensures) (c .before .before .before .before .if2 .left) (c .before .if3 .left)
+    placed-nowhere (a .params) (a .t) (a .x) (a .potential) (a .potential-count) (a .outliers) (a .outlier-count)
+    _ (k .potential-held .ensures) (p .result) (p .ensures)
+    (c .before .before .before .before .before .before .before .before .if1 .left)
+    _ (c .before .before .before .before .before .before .before .outliers-held .ensures)
+    (o .result) (o .ensures) _ (c .before .before .before .before .before .smaller .ensures) (c .new4 .result)
+    (z .0) (z .1) (z .2) _ (c .before .before .before .cut .ensures) _ (c .before .before .newborn .ensures)
+    (c .before .before .before .before .if2 .left) (c .new4 .ensures) (c .before .if3 .left)
 
 pub place-spec : {M : Type 1} → statement M
 place-spec =

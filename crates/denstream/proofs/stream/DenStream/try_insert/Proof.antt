@@ -4,12 +4,11 @@ use mathlib.Core.Path.{ap, _∙_}
 use native.Mathlib.Omega.{arith}
 use lib.ListN.{length, take}
 use borrow.Author.Needs.{needs}
-use Rattle.drift.specs.Monitor as monitor
 use Rattle.model.specs.Questions.{insertionAsked}
 use Rattle.denstream.specs.View.{view}
 use Rattle.model.specs.InsertLaws.{point-is, given-back}
 use Rattle.model.specs.NumberLaws.{den-insertion-said}
-use Rattle.denstream.proofs.Inserts.{Met, room, inserted}
+use Rattle.denstream.proofs.Inserts.{Met, placing, room, inserted}
 use Rattle.denstream.proofs.stream.DenStream.try_insert.Statement.{statement}
 use Rattle.denstream.proofs.stream.DenStream.try_insert.Tie as tie
 
@@ -42,7 +41,7 @@ met c =
     record {
       coordinates = d .ensures;
       point = λ h. point-is (a .x .now) (q .result) (min (s .params .dim) 15) (h ∙ d .ensures) (omega arith) (q .ensures);
-      placing = c .before .before .place .ensures (take (s .«label_count») (s .labels)) (monitor.view (s .drift));
+      placement = c .before .before .place .ensures;
       answer = c .insertion-asked .ensures ∙ ap (insertionAsked (d .result) (length (a .x .now)) (s .t)) (c .before .takes .ensures);
     }
 
@@ -50,7 +49,7 @@ is-done-requires : tie.Need-is-done-requires
 is-done-requires c κs = search needs
 
 taken-requires : tie.Need-taken-requires
-taken-requires c κs = (met (c .before) .placing .ready, room (met (c .before)) (c .is-done .result) (c .is-done .ensures))
+taken-requires c κs = (placing (met (c .before)) .ready, room (met (c .before)) (c .is-done .result) (c .is-done .ensures))
 
 returns : tie.Need-returns
 unfolding view
