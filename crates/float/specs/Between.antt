@@ -145,7 +145,7 @@ steps-within z h zero p k q = q
 steps-within z h (suc n) p k q = steps-within z (step z (suc n) h) n p (omega arith) (step-within z h (suc n) p (omega arith) k q)
 
 -- ---- z itself: the part of y below 0 that is left once its c whole ones are taken off, times L
-opened : (m : ℕ) (e : ℤ) (q : ℕ) (d : ℤ) → sub binary64 (fin true m e) (neg (fin false q d)) ≡ sum binary64 true (m * up e * down d) false (q * up d * down e) (down e * down d)
+pub opened : (m : ℕ) (e : ℤ) (q : ℕ) (d : ℤ) → sub binary64 (fin true m e) (neg (fin false q d)) ≡ sum binary64 true (m * up e * down d) false (q * up d * down e) (down e * down d)
 unfolding sub
 opened m e q d = refl
 
@@ -203,18 +203,19 @@ no-less c e =
     above-least (whole c) (plus-round binary64 c 1) (round-mono binary64 1023 1 c 1 (lit< tt) (lit< tt) (omega arith))
     (subst (λ (b : Bool). T (not b)) (sym (sym (lt-neg (whole c) (whole 1022)) ∙ e)) tt))
 
-minus-within : (m : ℕ) (e : ℤ) (k : ℕ) → m * up e / down e ≤ 1022 → Within false (steps ((fin true m e ⊖ neg (whole (m * up e / down e))) ⊗ L) 20 one ⊗ minusPower k)
+pub steps-of-rest : (m : ℕ) (e : ℤ) → m * up e / down e ≤ 1022 → Within false (steps ((fin true m e ⊖ neg (whole (m * up e / down e))) ⊗ L) 20 one)
 unfolding ofInt ofBits
-minus-within m e k h =
+steps-of-rest m e h =
     let c = m * up e / down e in
     let z = fin true m e ⊖ neg (whole c) in
     let r = rest-down m e (whole c) c (div-mul-le-self (m * up e) (down e)) (div-lt-iff-lt-mul (down-pos e) .0 (lt-add-one' c)) (round-whole binary64 false c (omega arith)) in
-    mul-within (steps (z ⊗ L) 20 one) (minusPower k)
-    (steps-within (z ⊗ L) one 20 (mul-down z L r L-within) (lit≤ tt) (refl, lit≤ tt))
-    (power-within k)
+    steps-within (z ⊗ L) one 20 (mul-down z L r L-within) (lit≤ tt) (refl, lit≤ tt)
   where
     lt-add-one' : (c : ℕ) → c < suc c
     lt-add-one' c = omega arith
+
+minus-within : (m : ℕ) (e : ℤ) (k : ℕ) → m * up e / down e ≤ 1022 → Within false (steps ((fin true m e ⊖ neg (whole (m * up e / down e))) ⊗ L) 20 one ⊗ minusPower k)
+minus-within m e k h = mul-within (steps ((fin true m e ⊖ neg (whole (m * up e / down e))) ⊗ L) 20 one) (minusPower k) (steps-of-rest m e h) (power-within k)
 
 nought-within : Within false nought
 unfolding ofBits

@@ -10,5 +10,9 @@ pub mod Opened
 pub mod Compare
 pub mod Ordered
 pub mod Whole
+pub mod Units
+pub mod Bounds
+pub mod LnLaws
 pub mod Between
 pub mod Computed
+pub mod BelowOne

@@ -278,7 +278,7 @@ neg-finite : {x : Float} → Finite x → Finite (neg x)
 unfolding neg
 neg-finite (is-fin s m e) = is-fin (not s) m e
 
-sub-opened : (f : Format) (x y : Float) → sub f x y ≡ add f x (neg y)
+pub sub-opened : (f : Format) (x y : Float) → sub f x y ≡ add f x (neg y)
 unfolding sub
 sub-opened f x y = refl
 

@@ -1,0 +1,60 @@
+-- A double above 0, counted in the smallest ones: m * 2 ^ power of them, where m has at most 53 binary digits. So it is its own rounding, and so
+-- are its half, the half of that .. down to the smallest. Assumes nothing.
+use mathlib.Core.Path.{_≡_, sym, ap, _∙_}
+use Prim.Native.Nat.{ℕ, suc, _+_, _-_, _*_, _%_, _^_, _≤_, _<_}
+use native.Mathlib.Nat.{le-of-eq, lt-of-lt-of-le, lt-of-le-of-lt, lt-of-not-le, lt-irrefl, lt-of-mul-lt-mul-right, le-of-suc-le-suc}
+use native.Mathlib.Nat.{mul-comm, mul-left-comm, mul-right-comm, mul-assoc, mul-one, mul-le-mul-left, mul-lt-mul-of-pos-right, mul-pos}
+use native.Mathlib.Omega.{arith}
+use mathlib.Core.Bool.{false, _&&_}
+use lib.IntN.{ℤ, pos, negsuc}
+use lib.Dec.{T, leb, ltb, eqb, ltb→lt, leb→le, lit<}
+use lib.Pow.{pow-add, pow-pos, pow-mono, pow-lt}
+use lib.Ieee.{fin, binary64, up, down, round, fits}
+use lib.Ieee.Fits.{and-l, and-r, down-pos}
+use lib.Ieee.Digits.{back}
+use lib.Ieee.Exact.{HasValue, round-exact}
+
+pub record Units (m : ℕ) (e : ℤ) : Type 0 where
+  pub power : ℕ
+  pub few : m < 2 ^ 53
+  pub is : m * up e * 2 ^ 1074 ≡ m * 2 ^ power * down e
+  pub room : m * 2 ^ power < 2 ^ 2098
+
+pow-lt-back : (i j : ℕ) → 2 ^ i < 2 ^ j → i < j
+pow-lt-back i j h = lt-of-not-le (λ (g : j ≤ i). lt-irrefl (2 ^ i) (lt-of-lt-of-le h (pow-mono g)))
+
+place : (m : ℕ) (e : ℤ) → down e ≤ 2 ^ 1074 → (k : ℕ) × (m * up e * 2 ^ 1074 ≡ m * 2 ^ k * down e)
+place m (pos x) h = (x + 1074, mul-assoc m (2 ^ x) (2 ^ 1074) ∙ ap (λ (y : ℕ). m * y) (sym (pow-add 2 x 1074)) ∙ sym (mul-one (m * 2 ^ (x + 1074))))
+place m (negsuc x) h =
+    let l : suc x ≤ 1074 = le-of-suc-le-suc (pow-lt-back (suc x) 1075 (lt-of-le-of-lt h (pow-lt {i = 1074} {j = 1075} (lit< tt)))) in
+    let k = 1074 - suc x in
+    let parts : 2 ^ 1074 ≡ 2 ^ k * 2 ^ suc x = ap (λ (y : ℕ). 2 ^ y) (sym (back 1074 (suc x) l)) ∙ pow-add 2 k (suc x) in
+    (k, ap (λ (y : ℕ). y * 2 ^ 1074) (mul-one m) ∙ ap (λ (y : ℕ). m * y) parts ∙ sym (mul-assoc m (2 ^ k) (2 ^ suc x)))
+
+pub in-units : (m : ℕ) (e : ℤ) → T (fits binary64 (fin false (suc m) e)) → Units (suc m) e
+unfolding fits
+in-units m e f =
+    let A = eqb (suc m % 2) 1 in
+    let B = ltb (suc m) (2 ^ 53) in
+    let D = leb (down e) (2 ^ 1074) in
+    let E = ltb (suc m * up e) (2 ^ 1024 * down e) in
+    let high : suc m * up e < 2 ^ 1024 * down e = ltb→lt (suc m * up e) (2 ^ 1024 * down e) (and-r (A && B && D) E f) in
+    let p = place (suc m) e (leb→le (down e) (2 ^ 1074) (and-r (A && B) D (and-l (A && B && D) E f))) in
+    record {
+      power = p .0;
+      few = ltb→lt (suc m) (2 ^ 53) (and-r A B (and-l (A && B) D (and-l (A && B && D) E f)));
+      is = p .1;
+      room = lt-of-mul-lt-mul-right (down e) (lt-of-le-of-lt (le-of-eq (sym (p .1)))
+          (lt-of-lt-of-le (mul-lt-mul-of-pos-right high (pow-pos 1074)) (le-of-eq (mul-right-comm (2 ^ 1024) (down e) (2 ^ 1074)))));
+    }
+
+-- halved t times
+pub halves-exact :
+    {m : ℕ} {e : ℤ} (u : Units m e) (t : ℕ) → t ≤ u .power →
+    HasValue (round binary64 false (m * up e) (down e * 2 ^ t)) false (m * up e) (down e * 2 ^ t)
+halves-exact {m} {e} u t h =
+    let k = u .power - t in
+    let parts : 2 ^ (u .power) ≡ 2 ^ k * 2 ^ t = ap (λ (n : ℕ). 2 ^ n) (sym (back (u .power) t h)) ∙ pow-add 2 k t in
+    round-exact binary64 false (m * up e) (down e * 2 ^ t) m k (mul-pos (down-pos e) (pow-pos t)) (u .few)
+    (lt-of-le-of-lt (mul-le-mul-left m (pow-mono {i = k} {j = u .power} (omega arith))) (u .room))
+    (u .is ∙ ap (λ (n : ℕ). m * n * down e) parts ∙ simp (mul-assoc, mul-comm, mul-left-comm))
