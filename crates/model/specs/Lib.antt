@@ -8,6 +8,7 @@ pub mod Ticking
 pub mod TickLaws
 pub mod Periods
 pub mod PeriodLaws
+pub mod TpLaws
 pub mod Nearest
 pub mod Families
 pub mod ReadOut
