@@ -6,13 +6,13 @@ pub mod Runs
 pub mod Counts
 pub mod Early
 pub mod Clocks
+pub mod Periods
 pub mod Means
 pub mod Weight
 pub mod Weights
 pub mod DbPlaces
 pub mod DbCases
 pub mod DbSettings
-pub mod DbPeriods
 pub mod DbGains
 pub mod DbFresh
 pub mod DbNumbers

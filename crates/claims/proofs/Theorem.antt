@@ -15,8 +15,8 @@ use Rattle.model.specs.DenState as den
 use Rattle.claims.specs.DbClaims as db-claim
 use Rattle.claims.specs.DenClaims as den-claim
 use Rattle.claims.proofs.Early.{window-takes}
+use Rattle.claims.proofs.Periods.{gap-whole, prune-whole, divides, due-is}
 use Rattle.claims.proofs.DbSettings as db-set
-use Rattle.claims.proofs.DbPeriods.{gap-whole, due-is}
 use Rattle.claims.proofs.DbFresh as db-fresh
 use Rattle.claims.proofs.DbFigures as db-figures
 use Rattle.claims.proofs.DbRoom.{fits, at-most-64}
@@ -43,7 +43,7 @@ dbstream =
         tGap = db-set.stays-set p xs .tGap;
         floor = db-set.stays-set p xs .floor;
         period = gap-whole p opens;
-        due = due-is p opens _ _ (db-fresh.from-fresh p xs .clock);
+        due = due-is (omega arith) (gap-whole p opens) _ _ (db-fresh.from-fresh p xs .clock);
         labels = labels-tell (db-claim.after p xs) (db-fresh.from-fresh p xs .ascending) (at-most-64 p xs);
         holdings = db-fresh.from-fresh p xs;
         figures = db-figures.figures p xs;
@@ -67,6 +67,9 @@ denstream =
     record {
       one = λ p opens xs. record {
         params = den-fresh.stays-set p xs;
+        period = prune-whole p opens;
+        due = due-is (omega arith) (prune-whole p opens) _ _ (den-fresh.from-fresh p xs .clock);
+        divisor = divides p opens;
         labels = groups-told (den-claim.after p xs)
             (let h : length (den-claim.after p xs .potential) + length (den-claim.after p xs .outliers) ≤ microsMost = den-fresh.from-fresh p xs .places in omega arith);
         holdings = den-fresh.from-fresh p xs;

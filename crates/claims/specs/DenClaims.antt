@@ -1,13 +1,14 @@
 -- Demand 3 for DenStream, as document 01 says it under "A whole run". Statements only; proofs/Theorem proves them.
-use Prim.Native.Nat.{ℕ, _+_, _≤_, _<_}
+use Prim.Native.Nat.{ℕ, _+_, _^_, _≤_, _<_}
 use mathlib.Core.Path.{_≡_}
 use mathlib.Core.Logic.{_↔_, _⊎_, _≢_}
 use mathlib.Core.Bool.{true, false}
 use mathlib.Core.List.{List, [], map}
 use lib.IntN.{ℤ, pos, negsuc}
 use lib.ListN.{length, getD}
-use lib.Ieee.{Float, le}
-use Rattle.float.specs.Rounded.{nought, whole}
+use lib.Ieee.{Float, binary64, neg, le, eq, rem}
+use Rattle.float.specs.Rounded.{_⊖_, _⊗_, nought, one, whole}
+use Rattle.float.specs.TwoTo.{twoTo}
 use Rattle.union_find.specs.Pairs.{Chain}
 use Rattle.labels.specs.Group.{Summed}
 use Rattle.adwin.specs.Window.{updateOf}
@@ -20,6 +21,8 @@ use Rattle.model.specs.declared.answers.Insertion.{Insertion}
 use Rattle.model.specs.declared.answers.Insertion.the-variants.{Done}
 use Rattle.model.specs.Limits.{microsMost}
 use Rattle.model.specs.Run.{runOf, answersOf, acceptedIn}
+use Rattle.model.specs.Fading.{isMultiple}
+use Rattle.model.specs.PeriodLaws.{Period}
 use Rattle.model.specs.DenState.{Settings, State, paramsOf, asked, fresh, openOf}
 use Rattle.model.specs.DenInsert.{nearestFor, insertOf}
 use Rattle.model.specs.DenCluster.{close, fadedWeights, clusterOf}
@@ -107,6 +110,12 @@ seen p xs = seenFrom insertOf nearestFor 0 (fresh p) xs
 pub record OneStream (p : Settings) (xs : List (List Float)) : Type 0 where
   -- dim, eps × eps, lambda, bm, mu and tp are those of the opening: so the labels go by its thresholds
   pub params : after p xs .params ≡ paramsOf p
+  -- tp is a whole number of ticks, from 1 to 2^38
+  pub period : Period (2 ^ 38) (paramsOf p .tp)
+  -- so a pruning is due exactly where the remainder of the doubles is 0, as in the Rust: `t % tp == 0.0`
+  pub due : isMultiple (after p xs .t) (paramsOf p .tp) ≡ eq (rem binary64 (after p xs .t) (paramsOf p .tp)) nought
+  -- and what outliers need is no division by 0: "/ (2^(−lambda×tp) − 1)"
+  pub divisor : eq (twoTo (neg (p .lambda) ⊗ paramsOf p .tp) ⊖ one) nought ≡ false
   pub labels : LabelsTellGroups (clusterOf (after p xs))
   pub holdings : FromFresh (acceptedIn (told p xs)) (after p xs)
   pub figures : Figures (acceptedIn (told p xs)) (after p xs)

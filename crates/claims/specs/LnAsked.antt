@@ -1,4 +1,4 @@
--- The window never asks ln below 1, where document 01 does not define it. Assumes nothing.
+-- Neither the window nor the opening of a DenStream asks ln below 1, where document 01 does not define it. Assumes nothing.
 use Prim.Native.Nat.{ℕ, zero, suc, _+_, _*_, _≤_, _<_}
 use mathlib.Core.Path.{_≡_, refl, sym, ap, _∙_, subst}
 use mathlib.Core.Bool.{Bool, true, false, cond, not, true≢false}
@@ -9,15 +9,18 @@ use lib.IntN.{ℤ, pos, negℤ}
 use lib.Dec.{T, ltb}
 use borrow.Author.Tests.{lt-ltb}
 use lib.Ieee.{Float, nan, inf, fin, binary64, up, down, round, mul, div, lt, le, eq, isNan, ofBits, ofInt}
-use lib.Ieee.Fits.{down-pos, up-pos}
-use Rattle.float.specs.Rounded.{_⊗_, _⊘_, one, two, whole}
+use lib.Ieee.Fits.{down-pos, up-pos, mul-fits}
+use Rattle.float.specs.Rounded.{_⊖_, _⊗_, _⊘_, one, two, whole}
 use Rattle.float.specs.Computed.{computed}
 use Rattle.float.specs.Order.{larger}
 use Rattle.float.specs.Ln.{lnOf}
+use Rattle.float.specs.LnLaws as ln
 use Rattle.float.specs.Opened.{Plus, plus-round, mul-fin, div-fin}
 use Rattle.float.specs.Ordered.{is-fin, le→parts, le-trans-all, le-of-not-lt, round-mono-signed}
 use Rattle.adwin.specs.Settings.{side, least, most}
 use Rattle.adwin.specs.Window.{clamped}
+use Rattle.model.specs.Periods.{bmOf}
+use Rattle.model.specs.TpLaws.{ratio-in}
 
 -- at least 1, or a NaN, which stays itself
 abbrev pub Asked : Float → Type 0
@@ -155,3 +158,7 @@ g-asked d width =
     let z = doubled y (larger-asked (lnOf width)) in
     ⊎-elim (λ h. inl (subst (λ (q : Float). T (le one (two ⊗ y ⊘ q))) (sym (h .is)) (over (two ⊗ y) (h .size) (h .power) (z .0) (z .1) (h .most))))
     (λ h. inr (ap (λ (q : Float). two ⊗ y ⊘ q) h ∙ div-nan (two ⊗ y))) (delta-cases d)
+
+-- "log2(bm/(bm−1))" of tp: its argument, for every beta × mu above 1
+pub tp-asked : (beta mu : Float) → lt one (bmOf beta mu) ≡ true → Asked (bmOf beta mu ⊘ (bmOf beta mu ⊖ one))
+tp-asked beta mu e = ⊎-elim inr (λ i. inl (ln.above-one i)) (ratio-in (bmOf beta mu) (mul-fits binary64 beta mu) e)
