@@ -2,10 +2,10 @@
 use mathlib.Core.Path.{_≡_, refl, ap, _∙_}
 use mathlib.Core.Bool.{Bool, true, false, cond, not, _||_}
 use mathlib.Core.List.{List, [], _∷_}
-use lib.Ieee.{Float, nan, ofBits, lt, le}
+use lib.Ieee.{Float, nan, inf, fin, binary64, ofBits, lt, le}
 use Rattle.float.specs.Rounded.{_⊕_, _⊖_, _⊗_, nought, one, two}
 use Rattle.float.specs.Ln.{lnOf}
-use Rattle.float.specs.Nan.{add-nan, mul-nan, div-nan, not-above-nan}
+use Rattle.float.specs.Opened.{add-nan, mul-nan, div-nan}
 use Rattle.buckets.specs.declared.bucket.Bucket.{Bucket}
 use Rattle.buckets.specs.declared.cut.CutTest.{CutTest}
 use Rattle.buckets.specs.Cut.{cutFails, someFails, boundOf, aOf}
@@ -16,17 +16,23 @@ use Rattle.adwin.specs.Window.{Window, Outcome, grown, shrunk, isEmpty, 
 use Rattle.adwin.specs.History.{runOf}
 use Rattle.adwin.specs.Cases.{update-cases}
 
--- ---- a NaN goes through ln and the bound
+-- ---- a NaN goes through every operation, and ln
+not-above-nan : (x : Float) → lt nan x ≡ false
+unfolding lt
+not-above-nan nan = refl
+not-above-nan (inf s) = refl
+not-above-nan (fin s m e) = refl
+
 ln-nan : lnOf nan ≡ nan
 unfolding lnOf le ofBits
 ln-nan = refl
 
 g-nan : (width : Float) → gOf nan width ≡ nan
-g-nan width = ap lnOf (div-nan _) ∙ ln-nan
+g-nan width = ap lnOf (div-nan binary64 _) ∙ ln-nan
 
 -- ---- so no cut fails
 sum-nan : (x y : Float) → x ⊕ y ⊗ nan ≡ nan
-sum-nan x y = ap (λ (z : Float). x ⊕ z) (mul-nan y) ∙ add-nan x
+sum-nan x y = ap (λ (z : Float). x ⊕ z) (mul-nan binary64 y) ∙ add-nan binary64 x
 
 bound-nan : (a v : Float) → boundOf a v nan ≡ nan
 bound-nan a v = sum-nan _ _

@@ -15,7 +15,7 @@ use Rattle.float.specs.Computed.{computed}
 use Rattle.float.specs.Order.{larger}
 use Rattle.float.specs.Ln.{lnOf}
 use Rattle.float.specs.LnLaws as ln
-use Rattle.float.specs.Opened.{Plus, plus-round, mul-fin, div-fin}
+use Rattle.float.specs.Opened.{Plus, plus-round, mul-fin, div-fin, div-nan}
 use Rattle.float.specs.Ordered.{is-fin, le→parts, le-trans-all, le-of-not-lt, round-mono-signed}
 use Rattle.adwin.specs.Settings.{side, least, most}
 use Rattle.adwin.specs.Window.{clamped}
@@ -145,19 +145,13 @@ delta-cases (fin s m e) = inl (go (lt (fin s m e) least) refl (lt most (fin s m 
     go false p true q = most-share
     go false p false q = between s m e p q
 
-div-nan : (x : Float) → x ⊘ nan ≡ nan
-unfolding div
-div-nan nan = refl
-div-nan (inf s) = refl
-div-nan (fin s m e) = refl
-
 -- "g = ln(2×max(1, ln width)/delta)": its argument, for every delta that a window is opened with
 pub g-asked : (d width : Float) → Asked (two ⊗ larger (lnOf width) one ⊘ clamped d)
 g-asked d width =
     let y = larger (lnOf width) one in
     let z = doubled y (larger-asked (lnOf width)) in
     ⊎-elim (λ h. inl (subst (λ (q : Float). T (le one (two ⊗ y ⊘ q))) (sym (h .is)) (over (two ⊗ y) (h .size) (h .power) (z .0) (z .1) (h .most))))
-    (λ h. inr (ap (λ (q : Float). two ⊗ y ⊘ q) h ∙ div-nan (two ⊗ y))) (delta-cases d)
+    (λ h. inr (ap (λ (q : Float). two ⊗ y ⊘ q) h ∙ div-nan binary64 (two ⊗ y))) (delta-cases d)
 
 -- "log2(bm/(bm−1))" of tp: its argument, for every beta × mu above 1
 pub tp-asked : (beta mu : Float) → lt one (bmOf beta mu) ≡ true → Asked (bmOf beta mu ⊘ (bmOf beta mu ⊖ one))

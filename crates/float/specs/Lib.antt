@@ -1,6 +1,5 @@
 pub mod Rounded
 pub mod Order
-pub mod Nan
 pub mod Cut
 pub mod Cutting
 pub mod TwoTo

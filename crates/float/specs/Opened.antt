@@ -76,3 +76,22 @@ sum-same f false a b c = refl
 pub unlike-false : (s : Bool) → unlike s false ≡ s
 unlike-false true = refl
 unlike-false false = refl
+
+-- ---- a NaN goes through every operation
+pub add-nan : (f : Format) (x : Float) → add f x nan ≡ nan
+unfolding add
+add-nan f nan = refl
+add-nan f (inf s) = refl
+add-nan f (fin s m e) = refl
+
+pub mul-nan : (f : Format) (x : Float) → mul f x nan ≡ nan
+unfolding mul
+mul-nan f nan = refl
+mul-nan f (inf s) = refl
+mul-nan f (fin s m e) = refl
+
+pub div-nan : (f : Format) (x : Float) → div f x nan ≡ nan
+unfolding div
+div-nan f nan = refl
+div-nan f (inf s) = refl
+div-nan f (fin s m e) = refl

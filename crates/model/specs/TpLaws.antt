@@ -11,7 +11,7 @@ use native.Mathlib.Decide.{decLt}
 use lib.IntN.{ℤ, pos, negsuc}
 use lib.Dec.{T, ltb→lt}
 use lib.Pow.{pow-mono, pow-pos, shl-lt}
-use lib.Ieee.{Float, nan, inf, fin, binary64, up, down, round, sum, add, sub, mul, neg, lt, le, eq, ofBits, fits}
+use lib.Ieee.{Float, nan, inf, fin, binary64, up, down, round, sum, add, sub, neg, lt, le, eq, ofBits, fits}
 use lib.Ieee.Fits.{down-pos, up-pos, mul-fits}
 use lib.Ieee.Exact.{round-exact}
 use lib.Ieee.Back.{round-whole}
@@ -19,7 +19,7 @@ use Rattle.float.specs.Rounded.{_⊖_, _⊗_, _⊘_, nought, one}
 use Rattle.float.specs.Computed.{computed}
 use Rattle.float.specs.TwoTo.{twoTo}
 use Rattle.float.specs.Ln.{log2Of}
-use Rattle.float.specs.Opened.{mul-fin, div-fin, sum-away}
+use Rattle.float.specs.Opened.{mul-fin, div-fin, sum-away, mul-nan}
 use Rattle.float.specs.Ordered.{round-mono-signed}
 use Rattle.float.specs.Whole.{Is}
 use Rattle.float.specs.Units.{Units, in-units, halves-exact}
@@ -110,12 +110,6 @@ log2-nan : log2Of nan ≡ nan
 unfolding computed
 log2-nan = refl
 
-mul-nan : (x : Float) → x ⊗ nan ≡ nan
-unfolding mul
-mul-nan nan = refl
-mul-nan (inf s) = refl
-mul-nan (fin s m e) = refl
-
 -- lambda × tp is at least 2^−32
 least : round binary64 true 1 (2 ^ 32) ≡ minusOf 32
 unfolding round
@@ -145,7 +139,7 @@ module _ (lambda beta mu : Float) (range : lambdaInRange lambda ≡ true) (above
     where
       overflown : bm ⊘ (bm ⊖ one) ≡ nan → UpTo (2 ^ 38) (one ⊘ lambda ⊗ log2Of (bm ⊘ (bm ⊖ one)))
       overflown n =
-          let e = ap (λ (v : Float). one ⊘ lambda ⊗ log2Of v) n ∙ ap (λ (v : Float). one ⊘ lambda ⊗ v) log2-nan ∙ mul-nan (one ⊘ lambda) in
+          let e = ap (λ (v : Float). one ⊘ lambda ⊗ log2Of v) n ∙ ap (λ (v : Float). one ⊘ lambda ⊗ v) log2-nan ∙ mul-nan binary64 (one ⊘ lambda) in
           subst (UpTo (2 ^ 38)) (sym e) none
 
       plain : In false 1 1 (2 ^ 53) (bm ⊘ (bm ⊖ one)) → UpTo (2 ^ 38) (one ⊘ lambda ⊗ log2Of (bm ⊘ (bm ⊖ one)))
