@@ -1,4 +1,5 @@
-//! Whole sessions for timing; the product's archives export the same ones in C (README.md, "Timing").
+//! Whole runs for timing: their inputs are drawn here, once for both sides, and these are the Rust's. The product's
+//! archive exports the same runs in C (README.md, "Timing").
 //!
 //! Inputs come from one generator of whole numbers below 2^31, written so that no product overflows 64 bits:
 //! a state s starts at 1, `step s` is (s mod 2^31) × 1103515245 + 12345, its value is s mod 2^31, a unit is that
@@ -22,26 +23,14 @@ fn choice(s: u64, n: u64) -> u64 {
     s % HALF / 65536 % n
 }
 
-/// n updates at delta 0.002, a fresh window after every 65,535: kind 0 takes units, kind 1 adds 5 in every second
-/// thousand. Gives the alarms plus the last window's mean.
-pub fn window(kind: u64, n: u64) -> f64 {
-    let mut w = Adwin::new(0.002);
-    let mut alarms = 0.0;
+/// n units; with jumps, plus 5 in every second thousand.
+pub fn window_values(jumps: bool, n: usize) -> Vec<f64> {
     let mut s = 1;
-    let mut taken = 0;
-    for i in 0..n {
-        if taken == 65535 {
-            w = Adwin::new(0.002);
-            taken = 0;
-        }
+    let mut value = |i| {
         s = step(s);
-        let level = if kind == 1 && i / 1000 % 2 == 1 { 5.0 } else { 0.0 };
-        if w.update(unit(s) + level) {
-            alarms += 1.0;
-        }
-        taken += 1;
-    }
-    alarms + w.mean()
+        unit(s) + if jumps && i / 1000 % 2 == 1 { 5.0 } else { 0.0 }
+    };
+    (0..n).map(|i| value(i)).collect()
 }
 
 /// Knot k of a lattice of 4 × 4 × 4 at 3 apart.
@@ -90,67 +79,126 @@ fn worst(i: u64) -> [f64; 15] {
     x
 }
 
-pub const LIVE: [u64; 3] = [10, 30, 64];
+/// The points of a session: lone ones of so many knots, so many micro-clusters in pairs, or the worst.
+#[derive(Clone, Copy)]
+pub enum Kind {
+    Lone(u64),
+    Paired(u64),
+    Worst,
+}
 
-fn db(kind: u64, n: u64) -> Db {
-    let mut s = 1;
-    let (dim, lambda) = match kind {
-        0..=2 => (3, 0.01),
-        3..=5 => (3, 1.0 / 1024.0),
-        _ => (15, 1.0 / 1024.0),
-    };
-    let mut stream = Db::new(dim, 1.0, lambda, 0.3, 1.0).expect("good settings");
-    for i in 0..n {
-        match kind {
-            0..=2 => stream.try_insert(&lone(i, LIVE[kind as usize], &mut s)),
-            3..=5 => stream.try_insert(&paired(i, LIVE[kind as usize - 3], &mut s)),
-            _ => stream.try_insert(&worst(i)),
+impl Kind {
+    pub fn dim(self) -> usize {
+        if let Kind::Worst = self { 15 } else { 3 }
+    }
+}
+
+/// A list of inserts: the values one after another, and the length of each point.
+pub struct Points {
+    pub values: Vec<f64>,
+    pub lengths: Vec<usize>,
+}
+
+impl Points {
+    pub fn draw(kind: Kind, inserts: usize) -> Self {
+        let mut s = 1;
+        let mut values = vec![];
+        for i in 0..inserts as u64 {
+            match kind {
+                Kind::Lone(live) => values.extend(lone(i, live, &mut s)),
+                Kind::Paired(live) => values.extend(paired(i, live, &mut s)),
+                Kind::Worst => values.extend(worst(i)),
+            }
         }
-        .expect("a good length");
+        Points { values, lengths: vec![kind.dim(); inserts] }
     }
-    stream
 }
 
-/// n inserts (at most 65,535) into a DBSTREAM of r 1, alpha 0.3, min_weight 1. Kinds 0 to 2: lambda 0.01, dim 3, lone
-/// points of 10, 30, 64 knots; 3 to 5: lambda 2^−10, dim 3, 10, 30, 64 in pairs; 6: lambda 2^−10, dim 15, the worst.
-/// Gives the number of micro-clusters plus the drift report's mean.
-pub fn dbstream(kind: u64, n: u64) -> f64 {
-    let s = db(kind, n);
-    s.micro_count() as f64 + s.drift().distance
+/// What a stream is opened with: eps or r, beta or alpha, mu or min_weight.
+#[derive(Clone, Copy)]
+pub struct Settings {
+    pub dim: usize,
+    pub radius: f64,
+    pub lambda: f64,
+    pub share: f64,
+    pub weight: f64,
 }
 
-/// That session with 2,000 inserts, then n times cluster. Gives the number of families.
-pub fn dbstream_cluster(kind: u64, n: u64) -> f64 {
-    let mut s = db(kind, 2000);
-    for _ in 0..n {
-        s.cluster();
-        black_box(s.labels());
+/// What a run of a stream tells, laid out as the archive gives it.
+#[repr(C)]
+pub struct Figures {
+    pub number: u64,
+    pub micros: usize,
+    pub families: usize,
+    pub alarms: u64,
+    pub distance: f64,
+    pub window: usize,
+}
+
+impl Figures {
+    /// Bit by bit.
+    pub fn words(&self) -> [u64; 6] {
+        let Figures { number, micros, families, alarms, distance, window } = *self;
+        [number, micros as u64, families as u64, alarms, distance.to_bits(), window as u64]
     }
-    s.n_clusters() as f64
 }
 
-fn den(kind: u64, n: u64) -> Den {
-    let mut s = 1;
-    let mut stream = Den::new(3, 1.0, 1.0 / 1024.0, 0.5, 3.0).expect("good settings");
-    for i in 0..n {
-        stream.try_insert(&lone(i, LIVE[kind as usize], &mut s)).expect("a good length");
+/// What a run of a window tells, laid out as the archive gives it.
+#[repr(C)]
+pub struct WindowFigures {
+    pub alarms: u64,
+    pub taken: u64,
+    pub width: usize,
+    pub mean: f64,
+    pub variance: f64,
+}
+
+impl WindowFigures {
+    /// Bit by bit.
+    pub fn words(&self) -> [u64; 5] {
+        [self.alarms, self.taken, self.width as u64, self.mean.to_bits(), self.variance.to_bits()]
     }
-    stream
 }
 
-/// n inserts (at most 65,535) into a DenStream of dim 3, eps 1, lambda 2^−10, beta 0.5, mu 3: lone points of 10, 30, 64
-/// knots for kinds 0 to 2. Gives the number of potential ones plus the drift report's mean.
-pub fn denstream(kind: u64, n: u64) -> f64 {
-    let s = den(kind, n);
-    s.potential_count() as f64 + s.drift().distance
-}
-
-/// That session with 2,000 inserts, then n times cluster. Gives the number of families.
-pub fn denstream_cluster(kind: u64, n: u64) -> f64 {
-    let mut s = den(kind, 2000);
-    for _ in 0..n {
-        s.cluster();
-        black_box(s.labels());
+/// An update by each value, from a fresh window; all are finite and at most 65,535.
+pub fn window_run(delta: f64, values: &[f64]) -> WindowFigures {
+    let mut w = Adwin::new(delta);
+    let mut alarms = 0;
+    for v in values {
+        if w.update(*v) {
+            alarms += 1;
+        }
     }
-    s.n_clusters() as f64
+    WindowFigures { alarms, taken: values.len() as u64, width: w.width(), mean: w.mean(), variance: w.variance() }
 }
+
+/// Opens, inserts each point, clusters, clusters so many times more and reads out. Settings and points are good ones.
+macro_rules! run {
+    ($name:ident, $stream:ty, $count:ident) => {
+        pub fn $name(p: &Settings, points: &Points, rounds: u64, numbers: &mut [u64]) -> Figures {
+            let mut s = <$stream>::new(p.dim, p.radius, p.lambda, p.share, p.weight).expect("good settings");
+            let mut rest = &points.values[..];
+            for (number, length) in numbers.iter_mut().zip(&points.lengths) {
+                let (x, later) = rest.split_at(*length);
+                *number = if s.try_insert(x).is_ok() { 0 } else { 7 };
+                rest = later;
+            }
+            s.cluster();
+            for _ in 0..rounds {
+                black_box(&mut s).cluster();
+            }
+            let drift = s.drift();
+            Figures {
+                number: 0,
+                micros: s.$count(),
+                families: s.n_clusters(),
+                alarms: drift.alarms,
+                distance: drift.distance,
+                window: drift.window,
+            }
+        }
+    };
+}
+
+run!(dbstream_run, Db, micro_count);
+run!(denstream_run, Den, potential_count);

@@ -1,86 +1,188 @@
-//! bench [RUNS] [WORD]: times whole sessions of the Rust and, built with the feature `product`, of the product too;
-//! best and median of RUNS (default 7), only the sessions whose name has WORD. The two must give the same answer.
+//! bench [RUNS] [WORD]: times whole runs of the Rust and, built with the feature `product`, of the product too, on the
+//! same points; best and median of RUNS (default 7), only the sessions whose name has WORD. Says where the two differ
+//! in a figure or in the number of an insert.
 //! Time is the thread's own, so that other work on the machine counts for little.
 //! bench stack: the stack that each of the product's sessions needs, its stream and the calls below it.
-use oracle::sessions;
+use oracle::sessions::{self, Figures, Kind, Points, Settings, WindowFigures};
 use std::hint::black_box;
 
-type Session = fn(u64, u64) -> f64;
+/// The runs of one side. A stream's takes the rounds of cluster, and writes the number of each insert.
+#[derive(Clone, Copy)]
+struct Side {
+    window: fn(f64, &[f64]) -> WindowFigures,
+    dbstream: StreamRun,
+    denstream: StreamRun,
+}
+
+type StreamRun = fn(&Settings, &Points, u64, &mut [u64]) -> Figures;
+
+const RUST: Side =
+    Side { window: sessions::window_run, dbstream: sessions::dbstream_run, denstream: sessions::denstream_run };
+
+#[cfg(feature = "product")]
+const PRODUCT: Side =
+    Side { window: product::window_run, dbstream: product::dbstream_run, denstream: product::denstream_run };
 
 #[cfg(feature = "product")]
 mod product {
+    use super::{Figures, Points, Settings, WindowFigures};
+
     mod c {
+        use super::{Figures, WindowFigures};
         unsafe extern "C" {
-            pub fn bench_window(kind: u64, n: u64) -> f64;
-            pub fn bench_dbstream(kind: u64, n: u64) -> f64;
-            pub fn bench_dbstream_cluster(kind: u64, n: u64) -> f64;
-            pub fn bench_denstream(kind: u64, n: u64) -> f64;
-            pub fn bench_denstream_cluster(kind: u64, n: u64) -> f64;
+            pub fn window_run(delta: f64, values: *const f64, count: usize) -> WindowFigures;
         }
+        /// A stream's run: each slice is its pointer and its length.
+        macro_rules! stream_run {
+            ($name:ident) => {
+                unsafe extern "C" {
+                    pub fn $name(
+                        dim: usize,
+                        radius: f64,
+                        lambda: f64,
+                        share: f64,
+                        weight: f64,
+                        values: *const f64,
+                        value_count: usize,
+                        lengths: *const usize,
+                        length_count: usize,
+                        rounds: u64,
+                        numbers: *mut u64,
+                        number_count: usize,
+                    ) -> Figures;
+                }
+            };
+        }
+        stream_run!(dbstream_run);
+        stream_run!(denstream_run);
     }
-    // SAFETY, all five: exported by the product's archive with this signature; they take and keep no pointer.
-    pub fn window(kind: u64, n: u64) -> f64 {
-        unsafe { c::bench_window(kind, n) }
+
+    // SAFETY, all three: exported by the product's archive with this signature; each pointer is a slice's, whose length
+    // follows it, and none is kept.
+    pub fn window_run(delta: f64, values: &[f64]) -> WindowFigures {
+        unsafe { c::window_run(delta, values.as_ptr(), values.len()) }
     }
-    pub fn dbstream(kind: u64, n: u64) -> f64 {
-        unsafe { c::bench_dbstream(kind, n) }
+    macro_rules! stream_run {
+        ($name:ident) => {
+            pub fn $name(p: &Settings, points: &Points, rounds: u64, numbers: &mut [u64]) -> Figures {
+                let Settings { dim, radius, lambda, share, weight } = *p;
+                let (values, value_count) = (points.values.as_ptr(), points.values.len());
+                let (lengths, length_count) = (points.lengths.as_ptr(), points.lengths.len());
+                let (to, places) = (numbers.as_mut_ptr(), numbers.len());
+                unsafe {
+                    c::$name(
+                        dim,
+                        radius,
+                        lambda,
+                        share,
+                        weight,
+                        values,
+                        value_count,
+                        lengths,
+                        length_count,
+                        rounds,
+                        to,
+                        places,
+                    )
+                }
+            }
+        };
     }
-    pub fn dbstream_cluster(kind: u64, n: u64) -> f64 {
-        unsafe { c::bench_dbstream_cluster(kind, n) }
+    stream_run!(dbstream_run);
+    stream_run!(denstream_run);
+}
+
+/// The inputs of a session: values for windows, or the settings and points of a stream.
+enum Input {
+    Window(Vec<f64>),
+    Db(Settings, Points),
+    Den(Settings, Points),
+}
+
+/// What a window and a stream take at most.
+const LIMIT: usize = 65_535;
+
+impl Input {
+    fn window(jumps: bool, n: usize) -> Self {
+        Input::Window(sessions::window_values(jumps, n))
     }
-    pub fn denstream(kind: u64, n: u64) -> f64 {
-        unsafe { c::bench_denstream(kind, n) }
+    fn db(kind: Kind, n: usize) -> Self {
+        let lambda = if let Kind::Lone(_) = kind { 0.01 } else { 1.0 / 1024.0 };
+        Input::Db(Settings { dim: kind.dim(), radius: 1.0, lambda, share: 0.3, weight: 1.0 }, Points::draw(kind, n))
     }
-    pub fn denstream_cluster(kind: u64, n: u64) -> f64 {
-        unsafe { c::bench_denstream_cluster(kind, n) }
+    fn den(kind: Kind, n: usize) -> Self {
+        let p = Settings { dim: kind.dim(), radius: 1.0, lambda: 1.0 / 1024.0, share: 0.5, weight: 3.0 };
+        Input::Den(p, Points::draw(kind, n))
     }
 }
 
-/// A session to time: what it makes n of; `over` is what comes before these calls and is subtracted.
+/// A session to time: its first n inputs, then so many rounds of cluster. With rounds these are timed, and the run
+/// without them is subtracted; else the inserts or updates are.
 struct Case {
     name: &'static str,
-    rust: Session,
-    #[cfg(feature = "product")]
-    product: Session,
-    kind: u64,
-    n: u64,
-    over: bool,
-}
-
-macro_rules! case {
-    ($name:expr, $f:ident, $kind:expr, $n:expr, $over:expr) => {
-        Case {
-            name: $name,
-            rust: sessions::$f,
-            #[cfg(feature = "product")]
-            product: product::$f,
-            kind: $kind,
-            n: $n,
-            over: $over,
-        }
-    };
+    draw: fn(usize) -> Input,
+    n: usize,
+    rounds: u64,
 }
 
 fn cases() -> Vec<Case> {
+    let of = |name, draw, n, rounds| Case { name, draw, n, rounds };
     vec![
-        case!("window update, steady", window, 0, 1_000_000, false),
-        case!("window update, a jump every 1,000", window, 1, 1_000_000, false),
-        case!("dbstream insert, 10 live, one neighbour", dbstream, 0, 65_535, false),
-        case!("dbstream insert, 30 live, one neighbour", dbstream, 1, 65_535, false),
-        case!("dbstream insert, 64 live, one neighbour", dbstream, 2, 65_535, false),
-        case!("dbstream insert, 10 live, two neighbours", dbstream, 3, 65_535, false),
-        case!("dbstream insert, 30 live, two neighbours", dbstream, 4, 65_535, false),
-        case!("dbstream insert, 64 live, two neighbours", dbstream, 5, 65_535, false),
-        case!("dbstream insert, dim 15, 64 absorb, 2,016 links", dbstream, 6, 1_000, false),
-        case!("dbstream cluster, 64 live, no link", dbstream_cluster, 2, 2_000, true),
-        case!("dbstream cluster, 64 live, 32 links", dbstream_cluster, 5, 2_000, true),
-        case!("dbstream cluster, 64 live, 2,016 links", dbstream_cluster, 6, 2_000, true),
-        case!("denstream insert, 10 live", denstream, 0, 65_535, false),
-        case!("denstream insert, 30 live", denstream, 1, 65_535, false),
-        case!("denstream insert, 64 live", denstream, 2, 65_535, false),
-        case!("denstream cluster, 10 potential", denstream_cluster, 0, 2_000, true),
-        case!("denstream cluster, 64 potential", denstream_cluster, 2, 2_000, true),
+        of("window update, steady", |n| Input::window(false, n), 1_000_000, 0),
+        of("window update, a jump every 1,000", |n| Input::window(true, n), 1_000_000, 0),
+        of("dbstream insert, 10 live, one neighbour", |n| Input::db(Kind::Lone(10), n), LIMIT, 0),
+        of("dbstream insert, 30 live, one neighbour", |n| Input::db(Kind::Lone(30), n), LIMIT, 0),
+        of("dbstream insert, 64 live, one neighbour", |n| Input::db(Kind::Lone(64), n), LIMIT, 0),
+        of("dbstream insert, 10 live, two neighbours", |n| Input::db(Kind::Paired(10), n), LIMIT, 0),
+        of("dbstream insert, 30 live, two neighbours", |n| Input::db(Kind::Paired(30), n), LIMIT, 0),
+        of("dbstream insert, 64 live, two neighbours", |n| Input::db(Kind::Paired(64), n), LIMIT, 0),
+        of("dbstream insert, dim 15, 64 absorb, 2,016 links", |n| Input::db(Kind::Worst, n), 1_000, 0),
+        of("dbstream cluster, 64 live, no link", |n| Input::db(Kind::Lone(64), n), 2_000, 2_000),
+        of("dbstream cluster, 64 live, 32 links", |n| Input::db(Kind::Paired(64), n), 2_000, 2_000),
+        of("dbstream cluster, 64 live, 2,016 links", |n| Input::db(Kind::Worst, n), 2_000, 2_000),
+        of("denstream insert, 10 live", |n| Input::den(Kind::Lone(10), n), LIMIT, 0),
+        of("denstream insert, 30 live", |n| Input::den(Kind::Lone(30), n), LIMIT, 0),
+        of("denstream insert, 64 live", |n| Input::den(Kind::Lone(64), n), LIMIT, 0),
+        of("denstream cluster, 10 potential", |n| Input::den(Kind::Lone(10), n), 2_000, 2_000),
+        of("denstream cluster, 64 potential", |n| Input::den(Kind::Lone(64), n), 2_000, 2_000),
     ]
+}
+
+/// What a session tells: the figures of each window, or of the stream.
+enum Told {
+    Windows(Vec<WindowFigures>),
+    Stream(Figures),
+}
+
+impl Told {
+    /// Bit by bit.
+    fn words(&self) -> Vec<u64> {
+        match self {
+            Told::Windows(all) => all.iter().flat_map(WindowFigures::words).collect(),
+            Told::Stream(f) => f.words().to_vec(),
+        }
+    }
+}
+
+impl std::fmt::Display for Told {
+    fn fmt(&self, to: &mut std::fmt::Formatter) -> std::fmt::Result {
+        match self {
+            Told::Windows(all) => {
+                let last = all.last().expect("a window");
+                write!(to, "alarms {}, mean {:?}", all.iter().map(|f| f.alarms).sum::<u64>(), last.mean)
+            }
+            Told::Stream(f) => write!(to, "micros {}, families {}, mean {:?}", f.micros, f.families, f.distance),
+        }
+    }
+}
+
+/// A session on one side; a fresh window after every 65,535 values.
+fn session(side: Side, input: &Input, rounds: u64, numbers: &mut [u64]) -> Told {
+    match input {
+        Input::Window(values) => Told::Windows(values.chunks(LIMIT).map(|c| (side.window)(0.002, c)).collect()),
+        Input::Db(p, points) => Told::Stream((side.dbstream)(p, points, rounds, numbers)),
+        Input::Den(p, points) => Told::Stream((side.denstream)(p, points, rounds, numbers)),
+    }
 }
 
 /// C's struct timespec and clock_gettime: the standard library has no thread time.
@@ -103,18 +205,19 @@ fn thread_time() -> f64 {
     t.seconds as f64 + t.nanoseconds as f64 * 1e-9
 }
 
-/// Seconds of a session and its answer.
-fn timed(f: Session, kind: u64, n: u64) -> (f64, f64) {
-    let start = thread_time();
-    let answer = black_box(f)(black_box(kind), n);
-    (thread_time() - start, answer)
-}
-
-/// Nanoseconds a call of one run, and the answer.
-fn once(f: Session, c: &Case) -> (f64, f64) {
-    let (all, answer) = timed(f, c.kind, c.n);
-    let over = if c.over { timed(f, c.kind, 0).0 } else { 0.0 };
-    ((all - over) * 1e9 / c.n as f64, answer)
+/// Nanoseconds a call of one run, what it tells, and the numbers of its inserts.
+fn once(side: Side, c: &Case, input: &Input) -> (f64, Told, Vec<u64>) {
+    // No insert's number is 99: one that isn't written shows.
+    let mut numbers = vec![99; c.n];
+    let mut timed = |rounds| {
+        let start = thread_time();
+        let told = session(black_box(side), black_box(input), rounds, &mut numbers);
+        (thread_time() - start, told)
+    };
+    let over = if c.rounds > 0 { timed(0).0 } else { 0.0 };
+    let (all, told) = timed(c.rounds);
+    let calls = if c.rounds > 0 { c.rounds as f64 } else { c.n as f64 };
+    ((all - over) * 1e9 / calls, told, numbers)
 }
 
 /// Best and median.
@@ -127,49 +230,52 @@ fn best_and_median(mut times: Vec<f64>) -> (f64, f64) {
 fn run(runs: usize, word: &str) {
     println!("{:<50} {:>9} {:>9}  nanoseconds a call, of {runs} runs", "the Rust", "best", "median");
     for c in cases().iter().filter(|c| c.name.contains(word)) {
+        let input = (c.draw)(c.n);
         let mut rust = vec![];
         #[cfg(feature = "product")]
         let mut ours = vec![];
         for _ in 0..runs {
-            rust.push(once(c.rust, c));
+            rust.push(once(RUST, c, &input));
             #[cfg(feature = "product")]
-            ours.push(once(c.product, c));
+            ours.push(once(PRODUCT, c, &input));
         }
-        let answer = rust[0].1;
-        let (best, median) = best_and_median(rust.into_iter().map(|r| r.0).collect());
+        let (best, median) = best_and_median(rust.iter().map(|r| r.0).collect());
         print!("{:<50} {best:>9.1} {median:>9.1}", c.name);
-        if c.n == 65_535 {
+        if c.n == LIMIT {
             print!("  session {:>6.1} ms", best * 65.535e-3);
         }
         #[cfg(feature = "product")]
         {
-            let got = ours[0].1;
-            let (own, own_median) = best_and_median(ours.into_iter().map(|r| r.0).collect());
+            let (own, own_median) = best_and_median(ours.iter().map(|r| r.0).collect());
             print!("  product {own:>9.1} {own_median:>9.1}  {:>6.2} times", own / best);
-            if got.to_bits() != answer.to_bits() {
-                print!("  ANSWERS DIFFER, product {got:?}");
+            if ours[0].1.words() != rust[0].1.words() || ours[0].2 != rust[0].2 {
+                print!("  ANSWERS DIFFER, product {}", ours[0].1);
             }
         }
-        println!("  answer {answer:?}");
+        println!("  {}", rust[0].1);
     }
 }
 
 /// The stack of a session: each trial is a process of its own, since one that runs out of stack is killed.
 #[cfg(feature = "product")]
 mod stack {
-    use super::{Case, cases};
+    use super::{PRODUCT, cases, session};
     use std::process::{Command, Stdio};
 
     const STEP: usize = 4 << 10;
 
     /// Inserts of a trial: every session has had a cleanup by then.
-    const FEW: u64 = 2_000;
+    const FEW: usize = 2_000;
 
     /// The session of number i on that much stack.
     pub fn trial(i: usize, bytes: usize) {
-        let Case { product, kind, n, .. } = cases()[i];
+        let c = &cases()[i];
+        let n = c.n.min(FEW);
+        let (input, rounds) = ((c.draw)(n), c.rounds);
+        let mut numbers = vec![0; n];
         let small = std::thread::Builder::new().stack_size(bytes);
-        small.spawn(move || product(kind, n.min(FEW))).expect("a thread").join().expect("the session ends");
+        let run = move || drop(session(PRODUCT, &input, rounds, &mut numbers));
+        small.spawn(run).expect("a thread").join().expect("the session ends");
     }
 
     fn ends(i: usize, bytes: usize) -> bool {

@@ -1,0 +1,92 @@
+use Prim.Native.Nat.{_-_, _≤_}
+use mathlib.Core.Path.{sym, subst, ap, _∙_}
+use mathlib.Core.Bool.{cond}
+use lib.ListN.{length}
+use Rattle.adwin.specs.Window.{Window, Outcome, newOf}
+use Rattle.adwin.specs.View.{view, rings}
+use Rattle.whole_runs.specs.WindowLaws.{one-at-most, Going, going-start, going-on, going-end, run-figures}
+use borrow.Author.Needs.{needs}
+use Rattle.whole_runs.proofs.window.window_run.Statement.{statement}
+use Rattle.whole_runs.proofs.window.window_run.Tie as tie
+
+abbrev Inv-loop : tie.InvT-loop
+Inv-loop delta values w₀ alarms₀ i₀ w alarms i = Going values (newOf delta) (view w) alarms i
+
+abbrev μ-loop : tie.MeasureT-loop
+μ-loop delta values w₀ alarms₀ i₀ w alarms i = length values - i
+
+new-requires : tie.Need-new-requires Inv-loop μ-loop
+new-requires c κs = search needs
+
+loop-holds : tie.Need-loop-holds Inv-loop μ-loop
+loop-holds c =
+    let a = c .before .before .args in
+    subst (λ (w : Window). Going (a .values .now) (newOf (a .delta)) w 0 0) (sym (c .new .ensures)) (going-start (a .values .now) (newOf (a .delta)))
+
+mul-update : tie.Need-mul-update Inv-loop μ-loop
+mul-update c = search needs
+
+shared-slice-read-update : tie.Need-shared-slice-read-update Inv-loop μ-loop
+shared-slice-read-update c = search needs
+
+update-requires : tie.Need-update-requires Inv-loop μ-loop
+update-requires c κs = search needs
+
+ring-requires : tie.Need-ring-requires Inv-loop μ-loop
+ring-requires c κs = search needs
+
+add-alarms : tie.Need-add-alarms Inv-loop μ-loop
+add-alarms c =
+    let k : c .ring .result ≤ 1 = rw (c .ring .ensures) (one-at-most (rings (c .before .before .update .result .answer))) in search needs
+
+add-i : tie.Need-add-i Inv-loop μ-loop
+add-i c = search needs
+
+loop-less : tie.Need-loop-less Inv-loop μ-loop
+loop-less c = search needs
+
+loop-again : tie.Need-loop-again Inv-loop μ-loop
+loop-again c =
+    let a = c .before .before .before .before .before .before .before .before .args in
+    let l = c .before .before .before .before .before .loop in
+    let u = c .before .before .update in
+    going-on (a .values .now) (newOf (a .delta)) (view (l .w)) (view (u .result .window)) (l .alarms) (l .i) (c .ring .result) _
+    (l .inv) (c .before .before .before .before .loop-test .taken)
+    (ap (λ (o : Outcome). o .window) (u .ensures .0)) (c .ring .ensures ∙ ap (λ (o : Outcome). cond (o .alarm) 1 0) (u .ensures .0))
+
+width-requires : tie.Need-width-requires Inv-loop μ-loop
+width-requires c κs = search needs
+
+mean-requires : tie.Need-mean-requires Inv-loop μ-loop
+mean-requires c κs = search needs
+
+variance-requires : tie.Need-variance-requires Inv-loop μ-loop
+variance-requires c κs = search needs
+
+returns : tie.Need-returns Inv-loop μ-loop
+returns c =
+    let a = c .before .before .before .before .before .before .before .args in
+    let l = c .before .before .before .before .loop in
+    let e = going-end (a .values .now) (newOf (a .delta)) (view (l .w)) (l .alarms) (l .i) (l .inv) (c .before .before .before .loop-test .left) in
+    run-figures (a .values .now) (newOf (a .delta)) (view (l .w)) _ _ _ _ e (c .before .before .width .ensures) (c .before .mean .ensures) (c .variance .ensures)
+
+pub window-run-spec : {M : Type 1} → statement M
+window-run-spec =
+    tie.close
+    (tie.spec
+    Inv-loop
+    μ-loop
+    new-requires
+    loop-holds
+    mul-update
+    shared-slice-read-update
+    update-requires
+    ring-requires
+    add-alarms
+    add-i
+    loop-less
+    loop-again
+    width-requires
+    mean-requires
+    variance-requires
+    returns)

@@ -1,0 +1,58 @@
+// A whole run of a DenStream.
+use crate::figures::Figures;
+use denstream::DenStream;
+ghost use mathlib.Core.Path.{_≡_};
+ghost use Rattle.model.specs.DenCluster.{clusterOf};
+ghost use Rattle.denstream.specs.View.{view};
+ghost use Rattle.session.specs.Points.{pointsOf};
+ghost use Rattle.session.specs.DenTold.{settings};
+ghost use Rattle.whole_runs.specs.Told.{iterate, told};
+ghost use Rattle.whole_runs.specs.Streams.{denstreamFigures, denstreamRun};
+
+fn clustered(stream: DenStream, rounds: u64) -> DenStream
+    ensures { λ r. ⌜ view r ≡ iterate clusterOf rounds (view stream) ⌝ }
+{
+    let mut s = stream;
+    let mut left = rounds;
+    while left > 0 {
+        s = s.cluster();
+        left -= 1;
+    }
+    s
+}
+
+fn figures_of(number: u64, stream: DenStream) -> Figures
+    ensures { λ r. ⌜ r ≡ denstreamFigures number (view stream) ⌝ }
+{
+    let report = stream.drift();
+    Figures {
+        number,
+        micros: stream.potential_count(),
+        families: den_reading::n_clusters(stream),
+        alarms: report.alarms,
+        distance: report.distance,
+        window: report.window,
+    }
+}
+
+// The run of `session`, clustered so many times more; `numbers` gets 0 or the refusal's number of each insert.
+#[no_mangle]
+pub extern "C" fn denstream_run(
+    dim: usize,
+    eps: f64,
+    lambda: f64,
+    beta: f64,
+    mu: f64,
+    values: &[f64],
+    lengths: &[usize],
+    rounds: u64,
+    numbers: &mut [u64],
+) -> Figures
+    ensures { λ f. ⌜ told f (now (numbers .exit))
+        ≡ denstreamRun (settings dim eps lambda beta mu) (pointsOf (now (lengths .entry)) (now (values .entry))) rounds (now (numbers .entry)) ⌝ }
+{
+    let run = session::denstream_session(dim, eps, lambda, beta, mu, values, lengths, numbers);
+    let stream = run.stream;
+    let last = clustered(stream, rounds);
+    figures_of(run.number, last)
+}
