@@ -1,12 +1,31 @@
--- A point in 15 places. Assumes nothing.
-use Prim.Native.Nat.{ℕ, min}
+-- A point in 15 places, one coordinate after another. Assumes nothing.
+use Prim.Native.Nat.{ℕ, zero, suc, _+_, _-_, _<_, min}
 use native.Mathlib.Nat.{min-comm}
-use mathlib.Core.Path.{_≡_, refl, sym, ap, _∙_}
-use mathlib.Core.List.{List}
+use native.Mathlib.Numerals.{add-one}
+use native.Mathlib.Omega.{arith}
+use mathlib.Core.Path.{_≡_, refl, ap, ap₂, _∙_}
+use mathlib.Core.List.{List, _++_}
 use lib.Ieee.{Float}
-use lib.ListN.{length, take}
-use Rattle.lists.specs.Rest.{cut-take, take-min}
+use lib.ListN.{length, take, drop, getD, set, replicate}
+use lib.Seq.{take-suc, drop-cons, append-snoc, set-at, length-take-le}
+use Rattle.float.specs.Rounded.{nought}
+use Rattle.lists.specs.Rest.{take-min}
+use Rattle.model.specs.Point.{paddedOf}
 
-pub padded-all : (p x : List Float) (n : ℕ) → n ≡ min (length x) 15 → length p ≡ 15 → take n p ≡ take n x → take (length x) p ≡ take 15 x
-padded-all p x n e h k =
-    sym (cut-take n (length x) 15 p e h) ∙ k ∙ ap (λ (m : ℕ). take m x) (e ∙ min-comm (length x) 15) ∙ take-min 15 (length x) x refl
+drop-replicate : (i n : ℕ) (z : Float) → drop i (replicate n z) ≡ replicate (n - i) z
+drop-replicate zero n z = ap (λ (k : ℕ). replicate k z) (let e : n ≡ n - zero = omega arith in e)
+drop-replicate (suc i) zero z = ap (λ (k : ℕ). replicate k z) (let e : zero ≡ zero - suc i = omega arith in e)
+drop-replicate (suc i) (suc n) z = drop-replicate i n z ∙ ap (λ (k : ℕ). replicate k z) (let e : n - i ≡ suc n - suc i = omega arith in e)
+
+pub padded-goes :
+    (x : List Float) (i : ℕ) (z : Float) → i < length x → i < 15 →
+    set (take i x ++ drop i (replicate 15 nought)) i (getD x i z) ≡ take (i + 1) x ++ drop (i + 1) (replicate 15 nought)
+padded-goes x i z h g =
+    let room : i < length (replicate 15 nought) = g in
+    let size : length (take i x) ≡ i = length-take-le i x (omega arith) in
+    rw (add-one, drop-cons (replicate 15 nought) i z room, take-suc x i z h, append-snoc (take i x) (getD x i z)) (set-at (take i x) _ _ (getD x i z) i size)
+
+pub padded-ends : (x : List Float) (i : ℕ) → i ≡ min (length x) 15 → take i x ++ drop i (replicate 15 nought) ≡ paddedOf x
+padded-ends x i e =
+    ap₂ (λ (a b : List Float). a ++ b) (ap (λ (m : ℕ). take m x) (e ∙ min-comm (length x) 15) ∙ take-min 15 (length x) x refl)
+    (drop-replicate i 15 nought ∙ ap (λ (k : ℕ). replicate k nought) (let s : 15 - i ≡ 15 - length x = omega arith in s))

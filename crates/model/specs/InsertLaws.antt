@@ -1,30 +1,37 @@
 -- What an insert of any stream gives, from what was asked and what became of the stream. Assumes nothing.
-use Prim.Native.Nat.{ℕ, _≤_}
+use Prim.Native.Nat.{ℕ, _-_, _≤_}
 use native.Mathlib.Omega.{arith}
 use native.Mathlib.Decide.{ℕ-discrete}
-use mathlib.Core.Path.{_≡_, refl, sym, ap, _∙_}
+use mathlib.Core.Path.{_≡_, refl, sym, ap, ap₂, _∙_}
 use mathlib.Core.Logic.{_≢_, by-cases}
 use mathlib.Core.Bool.{Bool, true, false, cond, true≢false}
-use mathlib.Core.List.{List}
+use mathlib.Core.List.{List, _++_}
 use borrow.Author.Tests.{ne-eqb}
 use lib.Dec.{eqb}
 use lib.Ieee.{Float, lt}
-use lib.ListN.{length, take}
-use lib.Seq.{take-all}
+use lib.ListN.{length, take, replicate}
+use lib.Seq.{take-all, take-append-seam}
+use Rattle.float.specs.Rounded.{nought}
 use Rattle.feature.specs.Feature.{maxDim}
 use Rattle.model.specs.declared.answers.Insertion.{Insertion}
 use Rattle.model.specs.declared.answers.Insertion.the-variants.{Done, Shape, ClockAtLimit, NoPlace}
 use Rattle.model.specs.Limits.{clockLimit}
 use Rattle.model.specs.Answers.{insertionNumber, isDone}
 use Rattle.model.specs.Questions.{insertionAsked}
+use Rattle.model.specs.Point.{paddedOf}
 use Rattle.model.specs.Outcome.{Outcome, outcome}
 
 never : {A : Type 0} → false ≡ true → A
 never e = absurd (true≢false (sym e))
 
 -- a point of dim coordinates, out of the places that it was copied to
-pub point-is : (x p : List Float) (d : ℕ) → length x ≡ d → d ≤ maxDim → take (length x) p ≡ take maxDim x → take d p ≡ x
-point-is x p d e h q = ap (λ (n : ℕ). take n p) (sym e) ∙ q ∙ take-all maxDim x (omega (arith, e, h))
+pub point-is : (x p : List Float) (d : ℕ) → length x ≡ d → d ≤ maxDim → p ≡ paddedOf x → take d p ≡ x
+point-is x p d e h q =
+    ap₂ (λ (n : ℕ) (l : List Float). take n l) (sym e) (q ∙ ap (λ (l : List Float). l ++ zeros) (take-all maxDim x (omega (arith, e, h))))
+    ∙ take-append-seam x zeros
+  where
+    zeros : List Float
+    zeros = replicate (maxDim - length x) nought
 
 module _ (dim got : ℕ) (t : Float) where
   -- a point of another length has the same answer with a place or without

@@ -2,6 +2,7 @@
 pub mod Limits
 pub mod Answers
 pub mod Questions
+pub mod Point
 pub mod Any
 pub mod Fading
 pub mod Ticking

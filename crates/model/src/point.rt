@@ -1,12 +1,11 @@
 // A point as an array.
 use feature::MAX_DIM;
 ghost use mathlib.Core.Path.{_≡_};
-ghost use lib.ListN.{length, take};
-ghost use Rattle.feature.specs.Feature.{maxDim};
+ghost use Rattle.model.specs.Point.{paddedOf};
 
 // The first 15 coordinates, with zeros behind them.
 pub fn padded(x: &[f64]) -> [f64; MAX_DIM]
-    ensures { λ r. ⌜ take (length (now (x .entry))) r ≡ take maxDim (now (x .entry)) ⌝ }
+    ensures { λ r. ⌜ r ≡ paddedOf (now (x .entry)) ⌝ }
 {
     let n = lists::cut(x.len(), MAX_DIM);
     let mut p = [0.0; MAX_DIM];

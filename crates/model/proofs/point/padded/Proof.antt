@@ -1,18 +1,18 @@
 -- `padded` meets its contract. Assumes nothing.
-use lib.ListN.{length-set, length, take}
-use Prim.Native.Nat.{_≤_, _<_, _-_}
-use mathlib.Core.Path.{_≡_, refl, _∙_}
+use lib.ListN.{length-set, length, take, drop, getD, set, replicate}
+use Prim.Native.Nat.{_≤_, _-_}
+use mathlib.Core.Path.{_≡_, refl, ap, _∙_}
+use mathlib.Core.List.{List, _++_}
 use native.Mathlib.Omega.{arith}
-use native.Mathlib.Numerals.{add-one}
-use lib.Ieee.{nan}
-use lib.Seq.{take-suc, take-suc-set}
-use Rattle.model.proofs.Padding.{padded-all}
+use lib.Ieee.{Float, nan}
+use Rattle.float.specs.Rounded.{nought}
+use Rattle.model.proofs.Padding.{padded-goes, padded-ends}
 use borrow.Author.Needs.{needs}
 use Rattle.model.proofs.point.padded.Statement.{statement}
 use Rattle.model.proofs.point.padded.Tie as tie
 
 abbrev Inv-loop : tie.InvT-loop
-Inv-loop x n p₀ i₀ p i = (i ≤ n) × (length p ≡ 15) × (take i p ≡ take i x)
+Inv-loop x n p₀ i₀ p i = (i ≤ n) × (length p ≡ 15) × (p ≡ take i x ++ drop i (replicate 15 nought))
 
 abbrev μ-loop : tie.MeasureT-loop
 μ-loop x n p₀ i₀ p i = n - i
@@ -45,10 +45,11 @@ loop-again : tie.Need-loop-again Inv-loop μ-loop
 loop-again c =
     let k = c .before .before in
     let x = k .before .before .before .args .x .now in
-    let i = k .loop .i in
-    let h : i < length (k .loop .p) = omega arith in
-    let g : i < length x = omega arith in
-    (omega arith, length-set (k .loop .p) i _ ∙ k .loop .inv .1, rw (add-one, take-suc-set (k .loop .p) i _ h, k .loop .inv .2, take-suc x i nan g))
+    let i = k .loop .i in (
+      omega arith,
+      length-set (k .loop .p) i _ ∙ k .loop .inv .1,
+      ap (λ (p : List Float). set p i (getD x i nan)) (k .loop .inv .2) ∙ padded-goes x i nan (omega arith) (omega arith),
+    )
 
 returns : tie.Need-returns Inv-loop μ-loop
 returns c =
@@ -56,7 +57,7 @@ returns c =
     let x = k .before .before .before .args .x .now in
     let n = k .before .cut .result in
     let e : k .loop .i ≡ n = omega arith in
-    padded-all (k .loop .p) x n (k .before .cut .ensures) (k .loop .inv .1) (rw e at (k .loop .inv .2))
+    k .loop .inv .2 ∙ padded-ends x (k .loop .i) (e ∙ k .before .cut .ensures)
 
 pub padded-spec : {M : Type 1} → statement M
 padded-spec =
