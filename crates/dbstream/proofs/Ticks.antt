@@ -1,6 +1,6 @@
 -- The stream that an insert leaves, from what the links' loop, the clock and the cleanup give. Assumes nothing.
 use Prim.Native.Nat.{ℕ}
-use mathlib.Core.Path.{_≡_, refl, sym, ap, ap₂, _∙_}
+use mathlib.Core.Path.{_≡_, refl, sym, ap, _∙_}
 use mathlib.Core.List.{List, map, map-map, foldl}
 use mathlib.Core.Bool.{Bool, true, false, cond}
 use lib.Ieee.{Float}
@@ -15,7 +15,7 @@ use Rattle.model.specs.declared.micro.MicroId.{MicroId}
 use Rattle.model.specs.declared.micro.DbMicro.{DbMicro}
 use Rattle.model.specs.declared.link.Link.{Link}
 use Rattle.model.specs.declared.clock.Ticked.{Ticked}
-use Rattle.model.specs.Ticking.{Ticks}
+use Rattle.model.specs.Ticking.{Tick, tickTold, tickedOf}
 use Rattle.model.specs.DbState.{State}
 use Rattle.model.specs.DbInsert.{idOf, pairsOf, gainOf, microStays, linkStays, cleanup, advanced, tickOf}
 use Rattle.neighbours.specs.declared.scan.Scan.{Scan}
@@ -118,12 +118,13 @@ module _ (s : DbStream) (f : Scan) (x : List Float) (next : MicroId) (ms : List 
       links = goal s (s .lambda) (s .t) (f .ids) (f .count)
 
 -- ---- the tick: what the clock r tells, then the cleanup where one is due
-module _ (s : DbStream) (near : Nearest) (r : Ticked) (told : Ticks (record { t = s .t; period = s .«t_gap»; drift = s .drift }) near r) where
+module _ (s : DbStream) (near : Nearest) (r : Ticked)
+    (told : tickTold r ≡ tickedOf (record { t = s .t; period = s .«t_gap»; drift = s .drift }) near) where
   abbrev later : DbStream
   later = having s (s .«next_id») (s .micros) (s .count) (s .links) (s .«link_count») (s .«label_count») (r .t) (r .drift)
 
   advanced-is : view later ≡ advanced (view s) near
-  advanced-is = ap₂ at (told .later) (told .seen)
+  advanced-is = ap (λ (q : Tick). at (q .t) (q .drift)) told
     where
       at : Float → Monitor → State
       at t monitor =
@@ -141,8 +142,12 @@ module _ (s : DbStream) (near : Nearest) (r : Ticked) (told : Ticks (record { t 
 
   pub tick-still : r .due ≡ false → view later ≡ tickOf (view s) near
   unfolding tickOf
-  tick-still e = advanced-is ∙ sym (ap (λ (b : Bool). cond b (cleanup (advanced (view s) near)) (advanced (view s) near)) (sym (told .due) ∙ e))
+  tick-still e =
+      advanced-is
+      ∙ sym (ap (λ (b : Bool). cond b (cleanup (advanced (view s) near)) (advanced (view s) near)) (sym (ap (λ (q : Tick). q .due) told) ∙ e))
 
   pub tick-cleans : (v : State) → r .due ≡ true → v ≡ cleanup (view later) → v ≡ tickOf (view s) near
   unfolding tickOf
-  tick-cleans v e h = h ∙ ap cleanup advanced-is ∙ sym (ap (λ (b : Bool). cond b (cleanup (advanced (view s) near)) (advanced (view s) near)) (sym (told .due) ∙ e))
+  tick-cleans v e h =
+      h ∙ ap cleanup advanced-is
+      ∙ sym (ap (λ (b : Bool). cond b (cleanup (advanced (view s) near)) (advanced (view s) near)) (sym (ap (λ (q : Tick). q .due) told) ∙ e))

@@ -1,15 +1,14 @@
 -- The stream that an insert leaves, from what the clock and the pruning give. Assumes nothing.
 use Prim.Native.Nat.{ℕ}
-use mathlib.Core.Path.{_≡_, sym, ap, ap₂, _∙_}
+use mathlib.Core.Path.{_≡_, sym, ap, _∙_}
 use mathlib.Core.Bool.{Bool, true, false, cond}
 use lib.Ieee.{Float}
 use Rattle.float.specs.Rounded.{_⊕_, one}
 use Rattle.drift.specs.declared.Nearest.{Nearest}
 use Rattle.drift.specs.declared.DriftMonitor.{DriftMonitor}
-use Rattle.drift.specs.Monitor.{Monitor}
 use Rattle.model.specs.declared.clock.Ticked.{Ticked}
 use Rattle.model.specs.Fading.{isMultiple}
-use Rattle.model.specs.Ticking.{Ticks}
+use Rattle.model.specs.Ticking.{Tick, tickTold, tickedOf}
 use Rattle.model.specs.DenState.{State}
 use Rattle.model.specs.DenInsert.{pruned, advanced, tickOf}
 use Rattle.placement.specs.Pools.{stateOf}
@@ -35,17 +34,19 @@ abbrev pub cleared : DenStream → DenStream
 cleared s = at s 0 (s .t) (s .drift)
 
 -- what the clock r tells, then the pruning where one is due
-module _ (s : DenStream) (near : Nearest) (r : Ticked) (told : Ticks (record { t = s .t; period = s .params .tp; drift = s .drift }) near r) where
+module _ (s : DenStream) (near : Nearest) (r : Ticked)
+    (told : tickTold r ≡ tickedOf (record { t = s .t; period = s .params .tp; drift = s .drift }) near) where
   abbrev later : DenStream
   later = at s (s .«label_count») (r .t) (r .drift)
 
   advanced-is : view later ≡ advanced (view s) near
   unfolding view
-  advanced-is = ap₂ (λ (t : Float) (d : Monitor). stateOf (s .params) t (s .potential) (s .«potential_count») (s .outliers) (s .«outlier_count») (view s .labels) d) (told .later) (told .seen)
+  advanced-is =
+      ap (λ (q : Tick). stateOf (s .params) (q .t) (s .potential) (s .«potential_count») (s .outliers) (s .«outlier_count») (view s .labels) (q .drift)) told
 
   due-is : (b : Bool) → r .due ≡ b → isMultiple (view s .t ⊕ one) (view s .params .tp) ≡ b
   unfolding view
-  due-is b e = sym (told .due) ∙ e
+  due-is b e = sym (ap (λ (q : Tick). q .due) told) ∙ e
 
   pub tick-still : r .due ≡ false → view later ≡ tickOf (view s) near
   unfolding tickOf

@@ -3,7 +3,7 @@ use drift::DriftMonitor;
 use drift::Nearest;
 ghost use mathlib.Core.Path.{_≡_};
 ghost use Rattle.model.specs.Fading.{isMultiple, ticksOf};
-ghost use Rattle.model.specs.Ticking.{Ticks};
+ghost use Rattle.model.specs.Ticking.{tickTold, tickedOf};
 
 // The whole ticks of a time; 0 where it is not above 0 or not below 2 to the power 63.
 fn ticks(x: f64) -> u64
@@ -51,7 +51,7 @@ impl Clock {
 
     // The drift monitor, then t grows by 1; pruning is due where t is a multiple of the period.
     pub fn tick(self, near: Nearest) -> Ticked
-        ensures { λ r. ⌜ Ticks self near r ⌝ }
+        ensures { λ r. ⌜ tickTold r ≡ tickedOf self near ⌝ }
     {
         let monitor = self.drift;
         let drift = monitor.observe(near, self.t);

@@ -1,8 +1,8 @@
 -- `DenStream::tick` meets its contract. Assumes nothing.
-use mathlib.Core.Path.{subst}
+use mathlib.Core.Path.{_≡_, ap, _∙_}
 use borrow.Author.Needs.{needs}
 use Rattle.model.specs.declared.clock.Clock.{Clock}
-use Rattle.model.specs.Ticking.{Ticks}
+use Rattle.model.specs.Ticking.{tickTold, tickedOf}
 use Rattle.denstream.specs.View.{view}
 use Rattle.denstream.proofs.Ticks.{tick-still, tick-prunes}
 use Rattle.denstream.proofs.stream.DenStream.tick.Statement.{statement}
@@ -18,8 +18,8 @@ tick-requires c κs = search needs
 told :
     (c : tie.After-tick) →
     let a = c .before .before .before .before .args in
-    Ticks (record { t = a .self .t; period = a .self .params .tp; drift = a .self .drift }) (a .near) (c .tick .result)
-told c = subst (λ (q : Clock). Ticks q (c .before .before .before .before .args .near) (c .tick .result)) (c .before .at .ensures) (c .tick .ensures)
+    tickTold (c .tick .result) ≡ tickedOf (record { t = a .self .t; period = a .self .params .tp; drift = a .self .drift }) (a .near)
+told c = c .tick .ensures ∙ ap (λ (q : Clock). tickedOf q (c .before .before .before .before .args .near)) (c .before .at .ensures)
 
 pruned-requires : tie.Need-pruned-requires
 pruned-requires c κs = search needs
