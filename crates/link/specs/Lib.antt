@@ -1,3 +1,4 @@
 pub mod Order
 pub mod Among
+pub mod Listed
 pub mod Between

@@ -7,6 +7,7 @@ ghost use mathlib.Core.Path.{_≡_};
 ghost use lib.ListN.{take};
 ghost use Rattle.lists.specs.Retain.{retain};
 ghost use Rattle.link.specs.Among.{isAmong, staysAmong};
+ghost use Rattle.link.specs.Listed.{linksTold, linksOf};
 
 // The list of links: the first count of the array.
 pub struct Links {
@@ -54,7 +55,7 @@ pub fn retained(
     floor: f64,
     t: f64,
 ) -> Links
-    ensures { λ r. ⌜ take (r .count) (r .links) ≡ retain (staysAmong lambda floor t (take n ids)) (take count links) ⌝ }
+    ensures { λ r. ⌜ linksTold r ≡ linksOf (retain (staysAmong lambda floor t (take n ids)) (take count links)) ⌝ }
 {
     let m = lists::cut(count, LINKS);
     let mut i = 0;

@@ -2,11 +2,10 @@
 use model::DbMicro;
 use model::MICROS;
 ghost use mathlib.Core.Path.{_≡_};
-ghost use Prim.Native.Nat.{_≤_};
 ghost use lib.ListN.{take};
 ghost use Rattle.lists.specs.Retain.{retain};
-ghost use Rattle.model.specs.Limits.{microsMost};
 ghost use Rattle.model.specs.DbInsert.{microStays};
+ghost use Rattle.micro.specs.Listed.{microsTold, microsOf};
 
 // Whether the faded weight is not below the floor.
 fn stays(m: DbMicro, lambda: f64, t: f64, floor: f64) -> bool
@@ -23,8 +22,7 @@ pub struct Micros {
 
 // The survivors, in order.
 pub fn retained(mut micros: [DbMicro; MICROS], n: usize, lambda: f64, t: f64, floor: f64) -> Micros
-    ensures { λ r. ⌜ take (r .count) (r .micros) ≡ retain (microStays lambda floor t) (take n micros) ⌝ }
-    ensures places { λ r. ⌜ r .count ≤ microsMost ⌝ }
+    ensures { λ r. ⌜ microsTold r ≡ microsOf (retain (microStays lambda floor t) (take n micros)) ⌝ }
 {
     let end = lists::cut(n, MICROS);
     let mut i: usize = 0;

@@ -1,3 +1,6 @@
+use mathlib.Core.Path.{ap}
+use Rattle.micro.specs.declared.cleanup.Micros.{Micros}
+use Rattle.link.specs.declared.stay.Links.{Links}
 use Rattle.dbstream.proofs.Ticks.{cleaned}
 use borrow.Author.Needs.{needs}
 use Rattle.dbstream.proofs.DbStream.cleaned.Statement.{statement}
@@ -16,7 +19,8 @@ returns : tie.Need-returns
 returns c =
     let kept = c .before .before .before .before .before .retained in
     let bound = c .before .retained2 in
-    cleaned (c .before .before .before .before .before .before .before .args .self) (kept .result .count) (kept .result .micros) (c .before .before .before .ids-of .result) (bound .result .count) (bound .result .links) (kept .ensures .0) (c .before .before .before .ids-of .ensures) (bound .ensures)
+    cleaned (c .before .before .before .before .before .before .before .args .self) (kept .result .count) (kept .result .micros) (c .before .before .before .ids-of .result) (bound .result .count) (bound .result .links)
+    (ap (λ (q : Micros). q .micros) (kept .ensures)) (c .before .before .before .ids-of .ensures) (ap (λ (q : Links). q .links) (bound .ensures))
 
 pub cleaned-spec : {M : Type 1} → statement M
 cleaned-spec = tie.close (tie.spec retained-requires ids-of-requires retained-requires-2 returns)

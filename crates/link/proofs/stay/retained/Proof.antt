@@ -1,10 +1,13 @@
 -- `retained` meets its contract. Assumes nothing.
-use Prim.Native.Nat.{_-_}
+use Prim.Native.Nat.{ℕ, _-_}
 use native.Mathlib.Omega.{arith}
+use mathlib.Core.Path.{ap, ap₂, _∙_}
+use mathlib.Core.List.{List}
 use mathlib.Core.Logic.{⊎-elim}
 use borrow.Author.Needs.{needs}
-use lib.ListN.{take}
-use Rattle.lists.specs.Counted.{Kept, keep-starts, keep-takes, keep-drops, keep-ends}
+use lib.ListN.{length, take}
+use Rattle.lists.specs.Counted.{Kept, keep-starts, keep-takes, keep-drops, keep-ends, kept-length}
+use Rattle.model.specs.declared.link.Link.{Link}
 use Rattle.link.specs.Among.{staysAmong}
 use Rattle.link.proofs.stay.retained.Statement.{statement}
 use Rattle.link.proofs.stay.retained.Tie as tie
@@ -53,7 +56,9 @@ loop-again c =
     ⊎-elim (λ w. keep-takes (k .inv) _ _ _ _ h v (w .0 .taken) (w .1) (w .2)) (λ w. keep-drops (k .inv) _ _ _ _ h v (w .0 .left) (w .1) (w .2)) (c .if1 .came)
 
 returns : tie.Need-returns Inv-loop μ-loop
-returns c = keep-ends (c .before .loop .inv) (c .loop-test .left)
+returns c =
+    let kept = keep-ends (c .before .loop .inv) (c .loop-test .left) in
+    ap₂ (λ (ls : List Link) (n : ℕ). record { links = ls; count = n }) kept (kept-length (c .before .loop .inv) ∙ ap length kept)
 
 pub retained-spec : {M : Type 1} → statement M
 retained-spec =

@@ -1,8 +1,12 @@
 -- `retained` meets its contract. Assumes nothing.
-use Prim.Native.Nat.{_-_}
+use Prim.Native.Nat.{ℕ, _-_}
+use mathlib.Core.Path.{ap, ap₂, _∙_}
+use mathlib.Core.List.{List}
 use mathlib.Core.Logic.{⊎-elim}
+use lib.ListN.{length}
 use native.Mathlib.Omega.{arith}
-use Rattle.lists.specs.Counted.{Kept, keep-starts, keep-takes, keep-drops, keep-ends, kept-fit}
+use Rattle.lists.specs.Counted.{Kept, keep-starts, keep-takes, keep-drops, keep-ends, kept-length}
+use Rattle.model.specs.declared.micro.DbMicro.{DbMicro}
 use Rattle.model.specs.DbInsert.{microStays}
 use borrow.Author.Needs.{needs}
 use Rattle.micro.proofs.cleanup.retained.Statement.{statement}
@@ -52,7 +56,9 @@ loop-again c =
     ⊎-elim (λ w. keep-takes (k .inv) _ _ _ _ h v (w .0 .taken) (w .1) (w .2)) (λ w. keep-drops (k .inv) _ _ _ _ h v (w .0 .left) (w .1) (w .2)) (c .if1 .came)
 
 returns : tie.Need-returns Inv-loop μ-loop
-returns c = (keep-ends (c .before .loop .inv) (c .loop-test .left), kept-fit (c .before .loop .inv))
+returns c =
+    let kept = keep-ends (c .before .loop .inv) (c .loop-test .left) in
+    ap₂ (λ (ms : List DbMicro) (k : ℕ). record { micros = ms; count = k }) kept (kept-length (c .before .loop .inv) ∙ ap length kept)
 
 pub retained-spec : {M : Type 1} → statement M
 retained-spec =
