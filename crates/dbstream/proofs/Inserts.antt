@@ -10,10 +10,10 @@ use borrow.Author.Tests.{eq-eqb, ne-eqb, lt-ltb, le-ltb}
 use lib.Dec.{T, ltb, ltb→lt}
 use lib.Ieee.{Float}
 use lib.ListN.{length, take, length-take}
-use lib.Seq.{length-take-le}
 use Rattle.float.specs.Rounded.{_⊗_}
 use Rattle.lists.specs.Retain.{retain}
 use Rattle.lists.specs.Maps.{map-length, map-append}
+use Rattle.lists.specs.Sizes.{retain-length}
 use Rattle.feature.specs.Feature.{maxDim}
 use Rattle.model.specs.declared.micro.MicroId.{MicroId}
 use Rattle.model.specs.declared.micro.DbMicro.{DbMicro}
@@ -25,12 +25,12 @@ use Rattle.model.specs.Questions.{insertionAsked}
 use Rattle.model.specs.Outcome.{outcome}
 use Rattle.model.specs.InsertLaws.{inserted-by}
 use Rattle.model.specs.DbState.{State}
-use Rattle.model.specs.DbInsert.{isNeighbour, neighboursOf, isAbsorbed, newborn, absorbs, absorbed, pairsOf, gainOf, born, idOf, joined, placed, tickOf, takenOf, hasPlace, insertOf}
+use Rattle.model.specs.DbInsert.{isNeighbour, neighboursOf, isAbsorbed, newborn, absorbs, absorbed, pairsOf, gainOf, born, joined, placed, tickOf, takenOf, hasPlace, insertOf}
 use Rattle.neighbours.specs.declared.scan.Scan.{Scan}
 use Rattle.micro.specs.Held.{cutTo, held}
 use Rattle.neighbours.specs.Near.{absorbNear}
 use Rattle.neighbours.specs.Placing.{hasPlaceBy}
-use Rattle.neighbours.specs.Scanned.{Scanned}
+use Rattle.neighbours.specs.Scanned.{scanTold, scanOf}
 use Rattle.neighbours.specs.Views.{absorb-view, newborn-view}
 use Rattle.dbstream.specs.declared.DbStream.{DbStream}
 use Rattle.dbstream.specs.Stream.{view, dimOf}
@@ -73,18 +73,28 @@ pub record Met (s : DbStream) (x y : List Float) (d : ℕ) (f : Scan) : Type 0 w
   pub coordinates : d ≡ dimOf s
   pub point : length x ≡ d → y ≡ x
   pub places : length (s .micros) ≡ microsMost
-  pub ids-places : length (f .ids) ≡ microsMost
-  pub scanned : Scanned (s .r) y d (s .count) (s .micros) f
+  pub scanned : scanTold (s .count) f ≡ scanOf (s .r) y (held d (s .count) (s .micros))
+
+-- no more neighbours than micro-clusters
+pub few : {s : DbStream} {x y : List Float} {d : ℕ} {f : Scan} → Met s x y d f → f .count ≤ microsMost
+few {s} {x} {y} {d} {f} m =
+    let ms : List DbMicro = held d (s .count) (s .micros) in
+    omega (
+      arith,
+      ap (λ (q : Scan). q .count) (m .scanned),
+      retain-length (isNeighbour (s .r) y) ms,
+      map-length (cutTo d) (take (s .count) (s .micros)),
+      length-take (s .count) (s .micros),
+      m .places,
+    )
 
 -- of a point of dim coordinates
 module _ {s : DbStream} {x y : List Float} {d : ℕ} {f : Scan} (m : Met s x y d f) (ex : length x ≡ d) where
-  met : Scanned (s .r) x (dimOf s) (s .count) (s .micros) f
-  met =
-      subst (λ (z : List Float). Scanned (s .r) z (dimOf s) (s .count) (s .micros) f) (m .point ex)
-      (subst (λ (q : ℕ). Scanned (s .r) y q (s .count) (s .micros) f) (m .coordinates) (m .scanned))
+  met : scanTold (s .count) f ≡ scanOf (s .r) x (view s .micros)
+  met = m .scanned ∙ ap₂ (λ (z : List Float) (q : ℕ). scanOf (s .r) z (held q (s .count) (s .micros))) (m .point ex) (m .coordinates)
 
   k-is : length (neighboursOf (view s) x) ≡ f .count
-  k-is = sym (map-length idOf (neighboursOf (view s) x)) ∙ sym (ap length (met .neighbours)) ∙ length-take-le (f .count) (f .ids) (omega (arith, met .places, m .ids-places))
+  k-is = sym (ap (λ (q : Scan). q .count) met)
 
   none : f .count ≡ 0 → isAbsorbed (view s) x ≡ false
   none h = any-none (isNeighbour (s .r) x) (view s .micros) (k-is ∙ h)
@@ -115,7 +125,7 @@ module _ {s : DbStream} {x y : List Float} {d : ℕ} {f : Scan} (m : Met s x y d
   micros-absorbed : f .count ≢ 0 → microsBy s f y ≡ map (absorbed (s .r) (s .lambda) (s .t) x) (view s .micros)
   micros-absorbed h =
       rw (ne-eqb (f .count) 0 h)
-      (ap₂ (λ (z q : List Float). map (cutTo (dimOf s)) (absorbNear (s .r ⊗ s .r) (absorbs (s .lambda) (s .t) z) q (take (s .count) (s .micros)))) (m .point ex) (met .measured)
+      (ap₂ (λ (z q : List Float). map (cutTo (dimOf s)) (absorbNear (s .r ⊗ s .r) (absorbs (s .lambda) (s .t) z) q (take (s .count) (s .micros)))) (m .point ex) (ap (λ (q : Scan). q .distances) met)
       ∙ absorb-view (dimOf s) x (ex ∙ m .coordinates) (s .r) (s .lambda) (s .t) (take (s .count) (s .micros)))
 
   -- no pair, no gain
@@ -133,7 +143,7 @@ module _ {s : DbStream} {x y : List Float} {d : ℕ} {f : Scan} (m : Met s x y d
       ∙ sym (ap (λ (c : Bool). cond c (joined (view s) x) (born (view s) x)) (none h)))
       (λ h.
       ap (λ (q : MicroId). changed s q (microsBy s f y) (gainedBy s f)) (rw (ne-eqb (f .count) 0 h) refl)
-      ∙ ap₂ (changed s (s .«next_id»)) (micros-absorbed h) (ap (λ (q : List MicroId). foldl (gainOf (s .lambda) (s .t)) (view s .links) (pairsOf q)) (met .neighbours))
+      ∙ ap₂ (changed s (s .«next_id»)) (micros-absorbed h) (ap (λ (q : Scan). foldl (gainOf (s .lambda) (s .t)) (view s .links) (pairsOf (q .ids))) met)
       ∙ sym (ap (λ (c : Bool). cond c (joined (view s) x) (born (view s) x)) (some h)))
 
 -- ---- the whole insert
@@ -143,5 +153,5 @@ module _ {s : DbStream} {x y : List Float} {d : ℕ} {f : Scan} (m : Met s x y d
   unfolding insertOf
   inserted b v eb ev =
       inserted-by d (length x) (s .t) place (hasPlace (view s) x) (view s) (takenOf (view s) x) (tickOf (placedBy s f y) (f .nearest)) v a b (λ h. ep ∙ place-is m h) e eb ev
-      (λ h p. ap₂ tickOf (placed-is m h (place-free f (s .count) (sym ep ∙ p))) (met m h .nearest))
+      (λ h p. ap₂ tickOf (placed-is m h (place-free f (s .count) (sym ep ∙ p))) (ap (λ (q : Scan). q .nearest) (met m h)))
       ∙ ap (λ (q : ℕ). outcome (insertionAsked q (length x) (s .t) (hasPlace (view s) x)) (view s) (takenOf (view s) x)) (m .coordinates)

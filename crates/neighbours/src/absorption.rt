@@ -9,7 +9,7 @@ ghost use lib.ListN.{take};
 ghost use Rattle.feature.specs.Feature.{maxDim};
 ghost use Rattle.model.specs.DbInsert.{absorbs};
 ghost use Rattle.model.specs.DbInsert as doc;
-ghost use Rattle.neighbours.specs.Placing.{placedAmong, nextAfter};
+ghost use Rattle.neighbours.specs.Placing.{placedTold, placedOf};
 
 // A micro-cluster that holds the point alone.
 fn newborn(x: [f64; MAX_DIM], dim: usize, t: f64, id: MicroId) -> DbMicro
@@ -48,8 +48,7 @@ pub fn with_point(
     lambda: f64,
     t: f64,
 ) -> Placed
-    ensures micros { λ p. ⌜ take (p .count) (p .micros) ≡ placedAmong scan r lambda t «next_id» (take dim x) n (take n micros) ⌝ }
-    ensures next { λ p. ⌜ p .«next_id» ≡ nextAfter scan n «next_id» ⌝ }
+    ensures { λ p. ⌜ placedTold p ≡ placedOf scan r lambda t «next_id» (take dim x) n (take n micros) ⌝ }
 {
     let held = lists::cut(n, MICROS);
     let mut count = held;

@@ -8,8 +8,9 @@ use model::MICROS;
 use model::MicroId;
 ghost use mathlib.Core.Path.{_≡_};
 ghost use lib.ListN.{take};
+ghost use Rattle.micro.specs.Held.{held};
 ghost use Rattle.neighbours.specs.Placing.{hasPlaceBy};
-ghost use Rattle.neighbours.specs.Scanned.{Scanned};
+ghost use Rattle.neighbours.specs.Scanned.{scanTold, scanOf};
 
 // The distances, the least of them, and the neighbours' creation numbers, of which count are there.
 pub struct Scan {
@@ -30,7 +31,7 @@ impl Scan {
 
 // One pass, before anything changes, measures what the neighbourhood and the drift monitor need.
 pub fn scan_for(micros: [DbMicro; MICROS], n: usize, x: [f64; MAX_DIM], dim: usize, r: f64) -> Scan
-    ensures { λ s. ⌜ Scanned r (take dim x) dim n micros s ⌝ }
+    ensures { λ s. ⌜ scanTold n s ≡ scanOf r (take dim x) (held dim n micros) ⌝ }
 {
     let end = lists::cut(n, MICROS);
     let r2 = r * r;

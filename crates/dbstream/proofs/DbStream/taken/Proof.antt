@@ -7,6 +7,7 @@ use lib.ListN.{length, take, set, length-map, length-set}
 use Rattle.model.specs.DbState.{State}
 use Rattle.model.specs.DbInsert.{tickOf}
 use Rattle.model.specs.InsertLaws.{when-done, when-refused}
+use Rattle.neighbours.specs.declared.absorption.Placed.{Placed}
 use Rattle.gains.specs.Passing.{Passing, Kept, toGo, starts, stepped, ends}
 use Rattle.dbstream.specs.Stream.{view}
 use Rattle.dbstream.specs.Placed.{placedBy, toldOf}
@@ -97,7 +98,7 @@ returns-2 c =
     let a = c .before .before .before .before .before .before .before .before .before .before .before .before .before .args in
     let done = not-false _ (c .before .before .before .before .before .before .before .before .before .before .before .before .if1 .left) in
     let x = take (a .dim) (a .x) in
-    let placed = placed-is (a .t1) (a .scan) x (p .result .«next_id») (p .result .micros) (p .result .count) (k .self) (k .pass .count) (p .ensures .0) (p .ensures .1) (k .inv .0 .rest) (ends _ _ _ _ _ _ _ (k .inv .1) (c .before .if2 .left)) in
+    let placed = placed-is (a .t1) (a .scan) x (p .result .«next_id») (p .result .micros) (p .result .count) (k .self) (k .pass .count) (ap (λ (q : Placed). q .micros) (p .ensures)) (ap (λ (q : Placed). q .«next_id») (p .ensures)) (k .inv .0 .rest) (ends _ _ _ _ _ _ _ (k .inv .1) (c .before .if2 .left)) in
     (c .tick .ensures ∙ ap (λ (s : State). tickOf s (a .scan .nearest)) placed ∙ when-done _ _ _ done, λ q. absurd (true≢false (sym done ∙ q)))
 
 pub taken-spec : {M : Type 1} → statement M

@@ -4,7 +4,7 @@ use lib.ListN.{take, length-map}
 use Rattle.model.specs.InsertLaws.{point-is, given-back}
 use Rattle.model.specs.NumberLaws.{db-insertion-said}
 use Rattle.dbstream.specs.Stream.{view}
-use Rattle.dbstream.proofs.Inserts.{Met, inserted}
+use Rattle.dbstream.proofs.Inserts.{Met, few, inserted}
 use borrow.Author.Needs.{needs}
 use Rattle.dbstream.proofs.DbStream.try_insert.Statement.{statement}
 use Rattle.dbstream.proofs.DbStream.try_insert.Tie as tie
@@ -32,7 +32,6 @@ met c =
       coordinates = d .ensures;
       point = λ ex. point-is (e .args .x .now) (c .before .before .padded .result) (d .result) ex (omega (arith, d .ensures)) (c .before .before .padded .ensures);
       places = sym (length-map (s .micros) _) ∙ e .good .0 .1 .1 .1 .1 .1 .1 .1 .1 .1 .1 .1 .0 .1 .0 .1;
-      ids-places = sym (length-map (c .scan-for .result .ids) _) ∙ c .scan-for .ok .1 .1 .1 .1 .0 .1 .0 .1;
       scanned = c .scan-for .ensures;
     }
 
@@ -46,7 +45,7 @@ is-done-requires : tie.Need-is-done-requires
 is-done-requires c κs = search needs
 
 taken-requires : tie.Need-taken-requires
-taken-requires c κs = met (c .before .before .before) .scanned .places
+taken-requires c κs = few (met (c .before .before .before))
 
 returns : tie.Need-returns
 returns c =

@@ -93,7 +93,7 @@ returns-3 c =
     let a = c .before .before .before .before .before .before .args in
     let n = c .before .before .before .before .before .cut in
     let k = c .before .loop in
-    absorbed-placed (a .scan) (a .r) (a .lambda) (a .t) (a .next-id) (take (a .dim) (a .x)) (a .n) (a .t1) (n .result) (n .ensures) (omega arith) (distances-room (c .before .before .before .before .before .before)) (c .before .before .before .if1 .left) (k .micros) (absorbing-ends (k .inv) (c .loop-test .left))
+    absorbed-placed (a .scan) (a .r) (a .lambda) (a .t) (a .next-id) (take (a .dim) (a .x)) (a .n) (a .t1) (n .result) (n .ensures) (omega arith) (distances-room (c .before .before .before .before .before .before)) (c .before .before .before .if1 .left) (k .micros) (k .inv .size) (absorbing-ends (k .inv) (c .loop-test .left))
 
 pub with-point-spec : {M : Type 1} → statement M
 with-point-spec =

@@ -10,11 +10,12 @@ use Rattle.lists.specs.Retain.{retain}
 use Rattle.lists.specs.Rest.{rest, cut-start}
 use Rattle.model.specs.declared.micro.DbMicro.{DbMicro}
 use Rattle.model.specs.Fading.{distanceTo}
-use Rattle.model.specs.DbInsert.{idOf, leastOf}
-use Rattle.micro.specs.Held.{cutTo}
+use Rattle.model.specs.DbInsert.{idOf}
+use Rattle.micro.specs.Held.{cutTo, held}
 use Rattle.neighbours.specs.Views.{isNear, neighbours-view}
 use Rattle.lists.specs.Counted.{Gathered, gather-starts, gather-goes, gather-ends}
 use Rattle.neighbours.proofs.Turns.{filter-take, filter-skip, filter-end}
+use Rattle.neighbours.proofs.Points.{scanned}
 use borrow.Author.Needs.{needs}
 use Rattle.neighbours.proofs.scan.scan_for.Statement.{statement}
 use Rattle.neighbours.proofs.scan.scan_for.Tie as tie
@@ -100,14 +101,11 @@ returns c =
     let k = c .before .before .loop in
     let a = c .before .before .before .before .args in
     let x = take (a .dim) (a .x) in
-    let measured = gather-ends (k .inv .0) (omega arith) ∙ sym (map-map (λ (m : DbMicro). distanceTo x (m .cf)) (cutTo (a .dim)) (take (a .n) (a .t1))) in
-    record {
-      measured = measured;
-      nearest = c .least .ensures ∙ ap leastOf measured;
-      neighbours = sym (filter-end idOf (isNear (a .r) x (a .dim)) (c .before .before .before .cut .result) (k .i) (a .t1) (take (k .k) (k .ids)) (omega arith)) ∙ k .inv .3
-          ∙ neighbours-view (a .r) x (a .dim) (take (a .n) (a .t1));
-      places = omega (arith, k .inv .0 .most, k .inv .0 .cut);
-    }
+    let few : k .k ≤ length (k .ids) = omega (arith, k .inv .0 .most, k .inv .0 .cut, k .inv .1, k .inv .2) in
+    scanned (a .r) x (held (a .dim) (a .n) (a .t1)) (a .n) _ (gather-ends (k .inv .0) (omega arith) ∙ sym (map-map (λ (m : DbMicro). distanceTo x (m .cf)) (cutTo (a .dim)) (take (a .n) (a .t1))))
+    (c .least .ensures)
+    (sym (filter-end idOf (isNear (a .r) x (a .dim)) (c .before .before .before .cut .result) (k .i) (a .t1) (take (k .k) (k .ids)) (omega arith)) ∙ k .inv .3 ∙ neighbours-view (a .r) x (a .dim) (take (a .n) (a .t1)))
+    few
 
 pub scan-for-spec : {M : Type 1} → statement M
 scan-for-spec =
