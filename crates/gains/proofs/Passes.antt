@@ -13,8 +13,8 @@ use Rattle.gains.specs.declared.factor.Factor.{Factor}
 use Rattle.gains.specs.declared.pass.Pass.{Pass}
 use Rattle.gains.specs.declared.pass.Turn.{Turn}
 use Rattle.gains.specs.declared.pass.Step.{Step}
-use Rattle.gains.specs.Factor.{factorOf, gainsBy}
-use Rattle.gains.specs.Pass.{carriedOf, passedOf, insertedOf, fadedBy, turnOf, nextPass, stepOf}
+use Rattle.gains.specs.Factor.{sinceOf, gainsBy}
+use Rattle.gains.specs.Pass.{carriedOf, passedOf, insertedOf, fadedBy, gainedBy, turnOf, nextPass, stepOf}
 
 module _ (lambda t : Float) (s : Pass) (l : Link) where
   pub carried-turn : (r : Turn) → s .carries ≡ true → r ≡ carriedOf s l → r ≡ turnOf lambda t s l
@@ -24,13 +24,14 @@ module _ (lambda t : Float) (s : Pass) (l : Link) where
     pub passed-turn : s .walk .p < s .count → before l (s .walk .key) ≡ true → passedOf s l ≡ turnOf lambda t s l
     passed-turn h e = sym (rw (off, lt-ltb (s .walk .p) (s .count) h, e))
 
-    -- by a factor f that is the one from the link's last
+    -- by the factor f from the link's last
     pub gained-turn :
-        (f : Factor) (new : Link) → s .walk .p < s .count → before l (s .walk .key) ≡ false → sameEnds l (s .walk .key) ≡ true → f ≡ factorOf lambda t (l .last) → new ≡ gainsBy (f .fade) t l →
+        (f : Factor) (new : Link) → s .walk .p < s .count → before l (s .walk .key) ≡ false → sameEnds l (s .walk .key) ≡ true →
+        f ≡ sinceOf lambda t (s .factor) (l .last) → new ≡ gainsBy (f .fade) t l →
         _≡_ {A = Turn} (record { link = new; gained = true; pass = fadedBy s f }) (turnOf lambda t s l)
     gained-turn f new h e d since is =
         ap (λ (v : Link). record { link = v; gained = true; pass = fadedBy s f }) is
-        ∙ ap (λ (g : Factor). record { link = gainsBy (g .fade) t l; gained = true; pass = fadedBy s g }) since
+        ∙ ap (gainedBy t s l) since
         ∙ sym (rw (off, lt-ltb (s .walk .p) (s .count) h, e, d))
 
     -- the key has no link: the place is past the last, or the link there stands after it

@@ -12,7 +12,7 @@ use Rattle.gains.specs.declared.factor.Factor.{Factor}
 use Rattle.gains.specs.declared.pass.Pass.{Pass}
 use Rattle.gains.specs.declared.pass.Turn.{Turn}
 use Rattle.gains.specs.declared.pass.Step.{Step}
-use Rattle.gains.specs.Factor.{factorOf}
+use Rattle.gains.specs.Factor.{factorOf, sinceOf, gainsBy}
 use Rattle.gains.specs.Walk.{firstOf, nextOf}
 
 abbrev pub passFrom : List MicroId → (count : ℕ) (lambda t : Float) → Pass
@@ -48,9 +48,13 @@ insertedOf lambda t s l =
 abbrev pub fadedBy : Pass → Factor → Pass
 fadedBy s f = record { walk = s .walk; count = s .count; carries = s .carries; carry = s .carry; at = s .at; factor = f }
 
--- l has the key's ends: it gains, and its factor is kept
+-- l gains by f, and f is kept
+abbrev pub gainedBy : (t : Float) → Pass → Link → Factor → Turn
+gainedBy t s l f = record { link = gainsBy (f .fade) t l; gained = true; pass = fadedBy s f }
+
+-- l has the key's ends: it gains by the factor from its last
 abbrev pub gainedOf : (lambda t : Float) → Pass → Link → Turn
-gainedOf lambda t s l = record { link = gains lambda t l; gained = true; pass = fadedBy s (factorOf lambda t (l .last)) }
+gainedOf lambda t s l = gainedBy t s l (sinceOf lambda t (s .factor) (l .last))
 
 -- l is passed, gains, or stands after the key
 abbrev pub lookedOf : (lambda t : Float) → Pass → Link → Turn

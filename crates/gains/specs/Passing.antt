@@ -26,8 +26,8 @@ use Rattle.gains.specs.declared.pass.Turn.{Turn}
 use Rattle.gains.specs.declared.pass.Step.{Step}
 use Rattle.gains.specs.Walk.{nextOf}
 use Rattle.gains.specs.Passed.{Absent}
-use Rattle.gains.specs.Factor.{factorOf, Right}
-use Rattle.gains.specs.Pass.{passFrom, placeOf, carriedOf, passedOf, insertedOf, fadedBy, gainedOf, lookedOf, turnOf, nextPass, stepOf}
+use Rattle.gains.specs.Factor.{Right, since-right}
+use Rattle.gains.specs.Pass.{passFrom, placeOf, carriedOf, passedOf, insertedOf, fadedBy, gainedBy, gainedOf, lookedOf, turnOf, nextPass, stepOf}
 use Rattle.gains.specs.Walking.{Walking, pairsLeft, start, step-before, step-same, step-after, step-full, less-next, absent-at, absent-end, end}
 
 -- a link is on its way up: put in at its place, it makes the list from which the walk goes on
@@ -51,7 +51,8 @@ abbrev pub toGo : (ids : List MicroId) (k : ℕ) → Pass → ℕ
 toGo ids k s = pairsLeft ids k (s .walk) * (linksMost + linksMost + 2) + cond (s .carries) (linksMost - s .at) (linksMost + 1 + (linksMost - s .walk .p))
 
 pub starts :
-    (lambda t : Float) (ids : List MicroId) (many k : ℕ) (ls : List Link) (count : ℕ) (s : Pass) → length ids ≡ microsMost → k ≡ min many microsMost → length ls ≡ linksMost → s ≡ passFrom ids count lambda t →
+    (lambda t : Float) (ids : List MicroId) (many k : ℕ) (ls : List Link) (count : ℕ) (s : Pass) →
+    length ids ≡ microsMost → k ≡ min many microsMost → length ls ≡ linksMost → s ≡ passFrom ids count lambda t →
     Passing lambda t ids k (foldl (gainOf lambda t) (take count ls) (pairsOf (take many ids))) ls s
 starts lambda t ids many k ls count s all among size is =
     subst (Passing lambda t ids k (foldl (gainOf lambda t) (take count ls) (pairsOf (take many ids))) ls) (sym is)
@@ -134,8 +135,10 @@ module _ (lambda t : Float) (ids : List MicroId) (k : ℕ) (goal ls : List Link)
             let p : s .walk .p < s .count = ltb-true _ _ ea in
             let e : q ≡ s .walk .p = here p in (
               (λ d. never (sym d)),
-              (λ d. subst (λ (m : ℕ). Kept (set ls m (gains lambda t (getD ls m z))) (nextPass ids k t (fadedBy s (factorOf lambda t (getD ls m z .last))))) (sym e)
-                  (next-free _ _ refl (step-same h live z _ refl p (subst (λ (m : ℕ). before (getD ls m z) (s .walk .key) ≡ false) e eb) (subst (λ (m : ℕ). sameEnds (getD ls m z) (s .walk .key) ≡ true) e ec)))),
+              (λ d. subst (λ (f : Factor). Kept (set ls q (gainedBy t s (getD ls q z) f .link)) (nextPass ids k t (gainedBy t s (getD ls q z) f .pass)))
+                  (sym (since-right lambda t (s .factor) (getD ls q z .last) right))
+                  (next-free _ _ refl (subst (λ (m : ℕ). Walking lambda t ids k goal (set ls m (gains lambda t (getD ls m z))) (s .count) (nextOf ids k t (s .walk)))
+                  (sym e) (step-same h live z _ refl p (subst (λ (m : ℕ). before (getD ls m z) (s .walk .key) ≡ false) e eb) (subst (λ (m : ℕ). sameEnds (getD ls m z) (s .walk .key) ≡ true) e ec))))),
             )
         met true false false ea eb ec =
             let p : s .walk .p < s .count = ltb-true _ _ ea in
@@ -211,8 +214,9 @@ module _ (lambda t : Float) (ids : List MicroId) (k : ℕ) (goal ls : List Link)
       (carried right z q (p .0) (p .1) (eq ∙ ap (λ (c : Bool). min (cond c (s .at) (s .walk .p)) (linksMost - 1)) (p .0) ∙ small (s .at) (omega (arith, p .1 .place, p .1 .free))))
 
   pub stepped :
-      Passing lambda t ids k goal ls s → s .walk .j < k → (z : Link) (q : ℕ) → q ≡ placeOf s → (r : Step) → (Right lambda t (s .factor) → r ≡ stepOf lambda t ids k s (getD ls q z)) → Kept (set ls q (r .link)) (r .pass)
-  stepped p live z q eq r er = subst (λ (v : Step). Kept (set ls q (v .link)) (v .pass)) (sym (er (p .0))) (go (u .gained) refl)
+      Passing lambda t ids k goal ls s → s .walk .j < k → (z : Link) (q : ℕ) → q ≡ placeOf s →
+      (r : Step) → r ≡ stepOf lambda t ids k s (getD ls q z) → Kept (set ls q (r .link)) (r .pass)
+  stepped p live z q eq r er = subst (λ (v : Step). Kept (set ls q (v .link)) (v .pass)) (sym er) (go (u .gained) refl)
     where
       u : Turn
       u = turnOf lambda t s (getD ls q z)

@@ -1,7 +1,6 @@
 // The fade of the last link is kept for the next: most links of an insert fade from the same clock.
 ghost use mathlib.Core.Path.{_≡_};
-ghost use mathlib.Core.Bool.{true};
-ghost use Rattle.gains.specs.Factor.{factorOf, Right};
+ghost use Rattle.gains.specs.Factor.{factorOf, sameBits, sinceOf};
 
 // How much is left at the clock of the insert of what was there at last.
 pub struct Factor {
@@ -21,7 +20,7 @@ impl Factor {
 
     // The factor from last: this one, where it is from there too.
     pub fn since(self, lambda: f64, t: f64, last: f64) -> Factor
-        ensures { λ r. ⌜ (Right lambda t self → r ≡ factorOf lambda t last) ⌝ }
+        ensures { λ r. ⌜ r ≡ sinceOf lambda t self last ⌝ }
     {
         if is_same(self.last, last) {
             return self;
@@ -30,9 +29,9 @@ impl Factor {
     }
 }
 
-// Whether a and b are one double, bit for bit.
+// Whether a and b are one double, bit for bit; a NaN is like none.
 fn is_same(a: f64, b: f64) -> bool
-    ensures { λ r. ⌜ (r ≡ true → a ≡ b) ⌝ }
+    ensures { λ r. ⌜ r ≡ sameBits a b ⌝ }
 {
     if a != a {
         return false;

@@ -8,7 +8,7 @@ use model::Link;
 use model::MICROS;
 use model::MicroId;
 ghost use mathlib.Core.Path.{_≡_};
-ghost use Rattle.gains.specs.Factor.{Right, gainsBy};
+ghost use Rattle.gains.specs.Factor.{gainsBy};
 ghost use Rattle.gains.specs.Pass.{passFrom, placeOf, carriedOf, insertedOf, turnOf, nextPass, stepOf};
 
 // How far the pairs and the links are walked, and how many links there are; `carries` says that
@@ -137,7 +137,7 @@ impl Pass {
 
     // l is the link at the place: it is passed, or it gains, or the pair's link goes there.
     fn turn(self, l: Link, lambda: f64, t: f64) -> Turn
-        ensures { λ r. ⌜ (Right lambda t (self .factor) → r ≡ turnOf lambda t self l) ⌝ }
+        ensures { λ r. ⌜ r ≡ turnOf lambda t self l ⌝ }
     {
         if self.carries {
             return self.carried(l);
@@ -180,7 +180,7 @@ impl Pass {
 
     // A turn, and on to the next pair where this one has had its gain.
     pub fn step(self, l: Link, ids: [MicroId; MICROS], k: usize, lambda: f64, t: f64) -> Step
-        ensures { λ r. ⌜ (Right lambda t (self .factor) → r ≡ stepOf lambda t ids k self l) ⌝ }
+        ensures { λ r. ⌜ r ≡ stepOf lambda t ids k self l ⌝ }
     {
         let turn = self.turn(l, lambda, t);
         let link = turn.link;

@@ -1,5 +1,6 @@
 -- `since` meets its contract. Assumes nothing.
-use mathlib.Core.Path.{ap, _∙_}
+use mathlib.Core.Path.{sym, ap, _∙_}
+use mathlib.Core.Bool.{Bool, cond}
 use borrow.Author.Needs.{needs}
 use Rattle.gains.specs.Factor.{factorOf}
 use Rattle.gains.proofs.factor.Factor.since.Statement.{statement}
@@ -11,13 +12,15 @@ is-same-requires c κs = search needs
 returns : tie.Need-returns
 returns c =
     let a = c .before .before .args in
-    λ right. right ∙ ap (factorOf (a .lambda) (a .t)) (c .before .«is-same» .ensures (c .if1 .taken))
+    sym (ap (λ (b : Bool). cond b (a .self) (factorOf (a .lambda) (a .t) (a .last))) (sym (c .before .«is-same» .ensures) ∙ c .if1 .taken))
 
 new-requires : tie.Need-new-requires
 new-requires c κs = search needs
 
 returns-2 : tie.Need-returns-2
-returns-2 c = λ right. c .new .ensures
+returns-2 c =
+    let a = c .before .before .before .args in
+    c .new .ensures ∙ sym (ap (λ (b : Bool). cond b (a .self) (factorOf (a .lambda) (a .t) (a .last))) (sym (c .before .before .«is-same» .ensures) ∙ c .before .if1 .left))
 
 pub since-spec : {M : Type 1} → statement M
 since-spec = tie.close (tie.spec is-same-requires returns new-requires returns-2)

@@ -14,13 +14,13 @@ returns : tie.Need-returns
 returns c =
     let a = c .before .before .before .before .before .args in
     let turn = c .before .before .before .before .turn in
-    λ right. stepped (a .lambda) (a .t) (a .self) (a .l) (a .ids) (a .k) (turn .result) _ (c .next .result) (turn .ensures right) (c .before .if1 .taken) (c .next .ensures)
+    stepped (a .lambda) (a .t) (a .self) (a .l) (a .ids) (a .k) (turn .result) _ (c .next .result) (turn .ensures) (c .before .if1 .taken) (c .next .ensures)
 
 returns-2 : tie.Need-returns-2
 returns-2 c =
     let a = c .before .before .before .before .args in
     let turn = c .before .before .before .turn in
-    λ right. stepped (a .lambda) (a .t) (a .self) (a .l) (a .ids) (a .k) (turn .result) _ _ (turn .ensures right) (c .if1 .left) refl
+    stepped (a .lambda) (a .t) (a .self) (a .l) (a .ids) (a .k) (turn .result) _ _ (turn .ensures) (c .if1 .left) refl
 
 pub step-spec : {M : Type 1} → statement M
 step-spec = tie.close (tie.spec turn-requires next-requires returns returns-2)

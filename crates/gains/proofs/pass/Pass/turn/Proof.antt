@@ -11,7 +11,7 @@ carried-requires c κs = search needs
 returns : tie.Need-returns
 returns c =
     let a = c .before .before .args in
-    λ right. carried-turn (a .lambda) (a .t) (a .self) (a .l) (c .carried .result) (c .before .if1 .taken) (c .carried .ensures)
+    carried-turn (a .lambda) (a .t) (a .self) (a .l) (c .carried .result) (c .before .if1 .taken) (c .carried .ensures)
 
 is-before-requires : tie.Need-is-before-requires
 is-before-requires c κs = search needs
@@ -22,7 +22,7 @@ add-walk c = search needs
 returns-2 : tie.Need-returns-2
 returns-2 c =
     let a = c .before .before .before .before .before .before .before .before .before .before .before .args in
-    λ right. passed-turn (a .lambda) (a .t) (a .self) (a .l) (c .before .before .before .before .before .before .before .before .before .before .if1 .left) (c .before .before .before .before .before .if2 .taken) (sym (c .before .before .before .before .«is-before» .ensures) ∙ c .before .before .before .if3 .taken)
+    passed-turn (a .lambda) (a .t) (a .self) (a .l) (c .before .before .before .before .before .before .before .before .before .before .if1 .left) (c .before .before .before .before .before .if2 .taken) (sym (c .before .before .before .before .«is-before» .ensures) ∙ c .before .before .before .if3 .taken)
 
 same-ends-requires : tie.Need-same-ends-requires
 same-ends-requires c κs = search needs
@@ -36,7 +36,7 @@ gained-requires c κs = search needs
 returns-3 : tie.Need-returns-3
 returns-3 c =
     let a = c .before .before .before .before .before .before .before .before .before .before .before .before .before .before .before .args in
-    λ right. gained-turn (a .lambda) (a .t) (a .self) (a .l) (c .before .before .before .before .before .before .before .before .before .before .before .before .before .before .if1 .left) (c .before .before .before .since .result) (c .before .before .gained .result) (c .before .before .before .before .before .before .before .before .before .if2 .taken) (sym (c .before .before .before .before .before .before .before .before .«is-before» .ensures) ∙ c .before .before .before .before .before .before .before .if3 .left) (sym (c .before .before .before .before .before .before .«same-ends» .ensures) ∙ c .before .before .before .before .before .if4 .taken) (c .before .before .before .since .ensures right) (c .before .before .gained .ensures)
+    gained-turn (a .lambda) (a .t) (a .self) (a .l) (c .before .before .before .before .before .before .before .before .before .before .before .before .before .before .if1 .left) (c .before .before .before .since .result) (c .before .before .gained .result) (c .before .before .before .before .before .before .before .before .before .if2 .taken) (sym (c .before .before .before .before .before .before .before .before .«is-before» .ensures) ∙ c .before .before .before .before .before .before .before .if3 .left) (sym (c .before .before .before .before .before .before .«same-ends» .ensures) ∙ c .before .before .before .before .before .if4 .taken) (c .before .before .before .since .ensures) (c .before .before .gained .ensures)
 
 inserted-requires : tie.Need-inserted-requires
 inserted-requires c κs = search needs
@@ -44,7 +44,7 @@ inserted-requires c κs = search needs
 returns-4 : tie.Need-returns-4
 returns-4 c =
     let a = c .before .before .before .before .before .before .before .args in
-    λ right. inserted-turn (a .lambda) (a .t) (a .self) (a .l) (c .before .before .before .before .before .before .if1 .left) (c .inserted .result)
+    inserted-turn (a .lambda) (a .t) (a .self) (a .l) (c .before .before .before .before .before .before .if1 .left) (c .inserted .result)
     (⊎-elim (λ w. inr (w .0 .taken, sym (w .1 .ensures) ∙ w .2 .left, sym (w .3 .ensures) ∙ w .4 .left)) (λ w. inl (w .left)) (c .before .if2 .came)) (c .inserted .ensures)
 
 pub turn-spec : {M : Type 1} → statement M
