@@ -31,6 +31,7 @@ fn main() {
     let mut input = [0u8; ROOM];
     let n = read_input(&mut input);
     let mut output = io::buffer();
-    let m = families_text::families(&input[..n], &mut output);
+    let written = families_text::families(&input[..n], &mut output);
+    let m = written.count(&output);
     io::write_all(STDOUT, &output[..m]);
 }

@@ -30,7 +30,8 @@ const NAN: u64 = 0x7ff8_0000_0000_0000;
 
 fn show(heading: &[u8], input: &[u8]) {
     let mut output = io::buffer();
-    let n = families_text::families(input, &mut output);
+    let written = families_text::families(input, &mut output);
+    let n = written.count(&output);
     io::write_all(STDOUT, heading);
     io::write_all(STDOUT, b":\n");
     io::write_all(STDOUT, &output[..n]);

@@ -1,17 +1,36 @@
 -- A text, and the text in a lent slice. Definitions only.
 use Prim.Native.Nat.{ℕ}
-use mathlib.Core.Bool.{cond}
-use mathlib.Core.List.{List}
+use mathlib.Core.List.{List, [], _∷_}
 use lib.ListN.{length, take}
+use Rattle.model.specs.Answers.{Said, gives, refuses}
+use Rattle.model.specs.Questions.{firstNo}
 use Rattle.model.specs.ReadOut.{hasPlaces, written}
 use Rattle.families_lines.specs.declared.text.Text.{Text}
+use Rattle.families_lines.specs.declared.text.Writing.{Writing}
+use Rattle.families_lines.specs.declared.text.Writing.the-variants.{Written, TooShort}
 
 abbrev pub textOf : Text → List ℕ
 textOf t = take (t .len) (t .bytes)
 
--- where the slice has no place for all of it, nothing is written and the answer is 0; elements beyond those written stay
-abbrev pub lengthIn : (text lent : List ℕ) → ℕ
-lengthIn text lent = cond (hasPlaces text lent) (length text) 0
+-- "A refusal carries its number": 10, or how many bytes were written
+abbrev pub writingSaid : Writing → Said ℕ
+writingSaid (Written n) = gives n
+writingSaid TooShort = refuses 10 []
 
-abbrev pub textIn : (text lent : List ℕ) → List ℕ
-textIn text lent = cond (hasPlaces text lent) (written text lent) lent
+abbrev pub writtenBytes : Writing → ℕ
+writtenBytes (Written n) = n
+writtenBytes TooShort = 0
+
+-- the answer, and the lent slice afterwards
+pub record TextWritten : Type 0 where
+  pub said : Said ℕ
+  pub output : List ℕ
+
+abbrev pub writeTold : Writing → List ℕ → TextWritten
+writeTold answer output = record { said = writingSaid answer; output = output }
+
+-- "has every lent slice a place for each element due? No: 10. Elements beyond those written stay."
+abbrev pub writeOf : (text lent : List ℕ) → TextWritten
+writeOf text lent =
+    firstNo ((hasPlaces text lent, record { said = refuses 10 []; output = lent }) ∷ [])
+    (record { said = gives (length text); output = written text lent })

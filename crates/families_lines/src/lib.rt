@@ -6,3 +6,4 @@ pub use lines::listing;
 pub use lines::refused;
 pub use text::ROOM;
 pub use text::Text;
+pub use text::Writing;

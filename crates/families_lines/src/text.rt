@@ -1,9 +1,9 @@
 // Text, made piece after piece: each call puts a piece at a place and gives the place after it.
-ghost use Prim.Native.Nat.{_+_, _≤_};
+ghost use Prim.Native.Nat.{_+_, _≤_, min};
 ghost use mathlib.Core.Path.{_≡_};
 ghost use lib.ListN.{length};
 ghost use Rattle.io.specs.Counts.{Counts};
-ghost use Rattle.families_lines.specs.Lent.{textOf, lengthIn, textIn};
+ghost use Rattle.families_lines.specs.Lent.{textOf, writtenBytes, writeTold, writeOf};
 ghost use Rattle.families_lines.specs.Put.{Put};
 ghost use Rattle.families_lines.specs.Text.{decimal};
 
@@ -42,17 +42,34 @@ pub(crate) fn put_number(out: &mut [u8], at: usize, n: u64) -> usize
 }
 
 impl Text {
-    // At the start of the output, and how long it is; nothing and 0 where the output has no place for all of it.
-    pub fn write(self, output: &mut [u8]) -> usize
-        ensures { λ r. ⌜ r ≡ lengthIn (textOf self) (now (output .entry)) ⌝ }
-        ensures { λ r. ⌜ now (output .exit) ≡ textIn (textOf self) (now (output .entry)) ⌝ }
-        ensures { λ r. ⌜ Counts r (now (output .exit)) ⌝ }
+    // At the start of the output, if it has a place for all of it.
+    pub fn write(self, output: &mut [u8]) -> Writing
+        ensures { λ r. ⌜ writeTold r (now (output .exit)) ≡ writeOf (textOf self) (now (output .entry)) ⌝ }
     {
         let bytes = self.bytes;
         let n = lists::cut(self.len, ROOM);
         if output.len() < n {
-            return 0;
+            return Writing::TooShort;
         }
-        put(output, 0, &bytes[..n])
+        Writing::Written(put(output, 0, &bytes[..n]))
+    }
+}
+
+// The answer of a text's write into a lent slice: how many bytes it wrote.
+pub enum Writing {
+    Written(usize),
+    TooShort,
+}
+
+impl Writing {
+    // How many bytes of the output are the text's: none of one that was too short.
+    pub fn count(self, output: &[u8]) -> usize
+        ensures { λ r. ⌜ r ≡ min (writtenBytes self) (length (now (output .entry))) ⌝ }
+        ensures { λ r. ⌜ Counts r (now (output .entry)) ⌝ }
+    {
+        let Writing::Written(n) = self else {
+            return 0;
+        };
+        lists::cut(n, output.len())
     }
 }

@@ -1,14 +1,14 @@
 // What `picture` prints for the bytes of its input: the families in words and as a picture.
 use dbstream::DbStream;
 use families_lines::Text;
+use families_lines::Writing;
 use model::MICROS;
 use picture_text::CENTRES;
 ghost use mathlib.Core.Path.{_≡_};
 ghost use mathlib.Core.List.{[]};
 ghost use lib.ListN.{take};
-ghost use Rattle.io.specs.Counts.{Counts};
 ghost use Rattle.dbstream.specs.Stream.{view};
-ghost use Rattle.families_lines.specs.Lent.{textOf, lengthIn, textIn};
+ghost use Rattle.families_lines.specs.Lent.{textOf, writeTold, writeOf};
 ghost use Rattle.page.specs.Added.{room, Added};
 ghost use Rattle.families_picture.specs.Picture.{drawnOf, pictureText};
 
@@ -47,11 +47,9 @@ fn text_of(input: &[u8]) -> Text
     drawn(stream)
 }
 
-// The text at the start of the output, and how long it is; nothing and 0 where the output has no place for all of it.
-pub fn picture(input: &[u8], output: &mut [u8]) -> usize
-    ensures { λ r. ⌜ r ≡ lengthIn (take room (pictureText (now (input .entry)))) (now (output .entry)) ⌝ }
-    ensures { λ r. ⌜ now (output .exit) ≡ textIn (take room (pictureText (now (input .entry)))) (now (output .entry)) ⌝ }
-    ensures { λ r. ⌜ Counts r (now (output .exit)) ⌝ }
+// The text at the start of the output, if it has a place for all of it.
+pub fn picture(input: &[u8], output: &mut [u8]) -> Writing
+    ensures { λ r. ⌜ writeTold r (now (output .exit)) ≡ writeOf (take room (pictureText (now (input .entry)))) (now (output .entry)) ⌝ }
 {
     let text = text_of(input);
     text.write(output)

@@ -1,11 +1,11 @@
 // What `families` prints for the bytes of its input.
 use dbstream::DbStream;
 use families_lines::Text;
+use families_lines::Writing;
 use model::MICROS;
 ghost use mathlib.Core.Path.{_≡_};
-ghost use Rattle.io.specs.Counts.{Counts};
 ghost use Rattle.dbstream.specs.Stream.{view};
-ghost use Rattle.families_lines.specs.Lent.{textOf, lengthIn, textIn};
+ghost use Rattle.families_lines.specs.Lent.{textOf, writeTold, writeOf};
 ghost use Rattle.families_text.specs.Families.{clusterText, familiesText};
 
 // The stream, clustered, as text.
@@ -35,11 +35,9 @@ fn text_of(input: &[u8]) -> Text
     clustered_text(stream)
 }
 
-// The text at the start of the output, and how long it is; nothing and 0 where the output has no place for all of it.
-pub fn families(input: &[u8], output: &mut [u8]) -> usize
-    ensures { λ r. ⌜ r ≡ lengthIn (familiesText (now (input .entry))) (now (output .entry)) ⌝ }
-    ensures { λ r. ⌜ now (output .exit) ≡ textIn (familiesText (now (input .entry))) (now (output .entry)) ⌝ }
-    ensures { λ r. ⌜ Counts r (now (output .exit)) ⌝ }
+// The text at the start of the output, if it has a place for all of it.
+pub fn families(input: &[u8], output: &mut [u8]) -> Writing
+    ensures { λ r. ⌜ writeTold r (now (output .exit)) ≡ writeOf (familiesText (now (input .entry))) (now (output .entry)) ⌝ }
 {
     let text = text_of(input);
     text.write(output)

@@ -12,6 +12,7 @@ fn main() {
     let mut input = [0u8; INPUT];
     let n = io::read_full(STDIN, &mut input);
     let mut output = [0u8; ROOM];
-    let m = families_picture::picture(&input[..n], &mut output);
+    let written = families_picture::picture(&input[..n], &mut output);
+    let m = written.count(&output);
     io::write_all(STDOUT, &output[..m]);
 }

@@ -3,7 +3,8 @@ const STDOUT: i32 = 1;
 
 fn show(heading: &[u8], input: &[u8]) {
     let mut output = [0u8; families_lines::ROOM];
-    let n = families_picture::picture(input, &mut output);
+    let written = families_picture::picture(input, &mut output);
+    let n = written.count(&output);
     io::write_all(STDOUT, heading);
     io::write_all(STDOUT, b":\n");
     io::write_all(STDOUT, &output[..n]);

@@ -1,9 +1,9 @@
 // A made-up session of readings for `families`: a sound movement, a worn kind, another worn kind, two strays, and the sound one that drifts.
 use families_lines::Text;
+use families_lines::Writing;
 use page::add;
 ghost use mathlib.Core.Path.{_≡_};
-ghost use Rattle.io.specs.Counts.{Counts};
-ghost use Rattle.families_lines.specs.Lent.{textOf, lengthIn, textIn};
+ghost use Rattle.families_lines.specs.Lent.{textOf, writeTold, writeOf};
 ghost use Rattle.page.specs.Added.{Added};
 ghost use Rattle.sample_session.specs.Sample.{phaseOf, wordBytes, doubleBytes, unit, readingBytes, phaseBytes, settingsBytes, sampleBytes};
 
@@ -127,11 +127,9 @@ fn sample() -> Text
     add_phase(strays, phase_of(96, 4, 0, 285, 2, 8, 3))
 }
 
-// The session at the start of the output, and how long it is; nothing and 0 where the output has no place for all of it.
-pub fn session(output: &mut [u8]) -> usize
-    ensures { λ r. ⌜ r ≡ lengthIn sampleBytes (now (output .entry)) ⌝ }
-    ensures { λ r. ⌜ now (output .exit) ≡ textIn sampleBytes (now (output .entry)) ⌝ }
-    ensures { λ r. ⌜ Counts r (now (output .exit)) ⌝ }
+// The session at the start of the output, if it has a place for all of it.
+pub fn session(output: &mut [u8]) -> Writing
+    ensures { λ r. ⌜ writeTold r (now (output .exit)) ≡ writeOf sampleBytes (now (output .entry)) ⌝ }
 {
     let text = sample();
     text.write(output)

@@ -4,7 +4,7 @@ use mathlib.Core.Path.{_≡_, sym, ap, _∙_}
 use mathlib.Core.List.{List}
 use borrow.Author.Needs.{needs}
 use lib.ListN.{length, length-map}
-use Rattle.families_lines.specs.Lent.{lengthIn, textIn}
+use Rattle.families_lines.specs.Lent.{writeOf}
 use Rattle.page.specs.Laws.{from-blank}
 use Rattle.families_picture.proofs.picture.Statement.{statement}
 use Rattle.families_picture.proofs.picture.Tie as tie
@@ -25,7 +25,7 @@ returns c =
     let w = c .before .before .write .ensures in
     let room : length (t .result .bytes) ≡ 16384 = sym (length-map (t .result .bytes) _) ∙ t .ok .1 .1 .0 .1 .0 .1 in
     let e = from-blank (t .result) room (t .ensures) in
-    (w .0 ∙ ap (λ (text : List ℕ). lengthIn text lent) e, (w .1 .0 ∙ ap (λ (text : List ℕ). textIn text lent) e, w .1 .1))
+    w ∙ ap (λ (text : List ℕ). writeOf text lent) e
 
 pub picture-spec : {M : Type 1} → statement M
 picture-spec = tie.close (tie.spec text-of-requires write-requires same-length returns)
