@@ -7,3 +7,4 @@ pub use lines::refused;
 pub use text::ROOM;
 pub use text::Text;
 pub use text::Writing;
+pub use text::write;

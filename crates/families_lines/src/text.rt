@@ -41,28 +41,34 @@ pub(crate) fn put_number(out: &mut [u8], at: usize, n: u64) -> usize
     put(out, at, &digits[..k])
 }
 
+// At the start of the output, if it has a place for all of them.
+pub fn write(bytes: &[u8], output: &mut [u8]) -> Writing
+    ensures { λ r. ⌜ writeTold r (now (output .exit)) ≡ writeOf (now (bytes .entry)) (now (output .entry)) ⌝ }
+{
+    if output.len() < bytes.len() {
+        return Writing::TooShort;
+    }
+    Writing::Written(put(output, 0, bytes))
+}
+
 impl Text {
-    // At the start of the output, if it has a place for all of it.
     pub fn write(self, output: &mut [u8]) -> Writing
         ensures { λ r. ⌜ writeTold r (now (output .exit)) ≡ writeOf (textOf self) (now (output .entry)) ⌝ }
     {
         let bytes = self.bytes;
         let n = lists::cut(self.len, ROOM);
-        if output.len() < n {
-            return Writing::TooShort;
-        }
-        Writing::Written(put(output, 0, &bytes[..n]))
+        write(&bytes[..n], output)
     }
 }
 
-// The answer of a text's write into a lent slice: how many bytes it wrote.
+// The answer of a write into a lent slice: how many bytes it wrote.
 pub enum Writing {
     Written(usize),
     TooShort,
 }
 
 impl Writing {
-    // How many bytes of the output are the text's: none of one that was too short.
+    // How many bytes of the output were written: none of one that was too short.
     pub fn count(self, output: &[u8]) -> usize
         ensures { λ r. ⌜ r ≡ min (writtenBytes self) (length (now (output .entry))) ⌝ }
         ensures { λ r. ⌜ Counts r (now (output .entry)) ⌝ }

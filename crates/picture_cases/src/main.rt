@@ -1,6 +1,9 @@
 // Inputs at the edges of `picture`, each under a heading; the gate compares the text with the file stdout.
 const STDOUT: i32 = 1;
 
+// No descriptor.
+const NONE: i32 = -1;
+
 fn show(heading: &[u8], input: &[u8]) {
     let mut output = [0u8; families_lines::ROOM];
     let written = families_picture::picture(input, &mut output);
@@ -10,9 +13,18 @@ fn show(heading: &[u8], input: &[u8]) {
     io::write_all(STDOUT, &output[..n]);
 }
 
+// Where a read fails there is no input.
+fn failing() {
+    let mut room = [1u8; input::ROOM];
+    let got = input::read(NONE, &mut room);
+    let n = got.count(&room);
+    show(b"a read that fails", &room[..n]);
+}
+
 // Settings: dim, r, lambda 2^-10, alpha 0.5, min_weight 1; then the readings.
 fn main() {
     show(b"no input", b"");
+    failing();
     show(
         b"r 0",
         b"\x03\0\0\0\0\0\0\0\0\0\0\0\0\0\0\0\0\0\0\0\0\0\x50\x3f\0\0\0\0\0\0\xe0\x3f\0\0\0\0\0\0\xf0\x3f",

@@ -1,18 +1,18 @@
--- `read_input` meets its contract. Assumes nothing.
+-- `read_all` meets its contract. Assumes nothing.
 use Prim.Native.Nat.{_-_, _≤_}
 use mathlib.Core.Path.{_≡_, refl}
 use native.Mathlib.Omega.{arith}
 use lib.ListN.{length}
 use borrow.Author.Needs.{needs}
 use Rattle.io.proofs.Counting.{counts}
-use Rattle.families.proofs.read_input.Statement.{statement}
-use Rattle.families.proofs.read_input.Tie as tie
+use Rattle.input.proofs.read_all.Statement.{statement}
+use Rattle.input.proofs.read_all.Tie as tie
 
 abbrev Inv-loop : tie.InvT-loop
-Inv-loop room₀ done₀ room done = (done ≤ length room) × (length room ≡ length room₀)
+Inv-loop fd room₀ done₀ room done = (done ≤ length room) × (length room ≡ length room₀)
 
 abbrev μ-loop : tie.MeasureT-loop
-μ-loop room₀ done₀ room done = length room - done
+μ-loop fd room₀ done₀ room done = length room - done
 
 loop-holds : tie.Need-loop-holds Inv-loop μ-loop
 loop-holds c = (omega arith, refl)
@@ -68,8 +68,8 @@ same-length-3 c = search needs
 returns-3 : tie.Need-returns-3 Inv-loop μ-loop
 returns-3 c = counts (c .before .loop .done) (c .before .loop .room) (search needs)
 
-pub read-input-spec : {M : Type 1} → statement M
-read-input-spec =
+pub read-all-spec : {M : Type 1} → statement M
+read-all-spec =
     tie.close
     (tie.spec
     Inv-loop
