@@ -17,9 +17,9 @@ eight = ofBits binary64 0x4020_0000_0000_0000
 abbrev pub parts : Float
 parts = ofBits binary64 0x40f0_0000_0000_0000
 
-abbrev pub phaseOf : (count gain loss amplitude beat spread walk : ℕ) → Phase
-phaseOf count gain loss amplitude beat spread walk =
-    record { count = count; gain = gain; loss = loss; amplitude = amplitude; beat = beat; spread = spread; walk = walk }
+abbrev pub phaseOf : (count gain loss amplitude beatError spread walk : ℕ) → Phase
+phaseOf count gain loss amplitude beatError spread walk =
+    record { count = count; gain = gain; loss = loss; amplitude = amplitude; «beat_error» = beatError; spread = spread; walk = walk }
 
 -- a word's 8 bytes, the one of the least weight first
 unfoldable pub wordBytes : ℕ → List ℕ
@@ -49,7 +49,7 @@ abbrev pub readingBytes : Phase → ℕ → List ℕ
 readingBytes p i =
     doubleBytes (whole (p .gain) ⊖ whole (p .loss) ⊕ whole (p .spread) ⊗ unit i 53685 ⊕ walked p i)
     ++ doubleBytes (whole (p .amplitude) ⊕ whole (p .spread) ⊗ unit i 43977 ⊖ walked p i)
-    ++ doubleBytes (whole (p .beat) ⊕ whole (p .spread) ⊗ unit i 36025)
+    ++ doubleBytes (whole (p .«beat_error») ⊕ whole (p .spread) ⊗ unit i 36025)
 
 abbrev pub phaseBytes : Phase → List ℕ
 phaseBytes p = each (readingBytes p) (p .count)

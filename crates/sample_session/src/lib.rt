@@ -14,7 +14,7 @@ pub struct Phase {
     pub gain: u32,
     pub loss: u32,
     pub amplitude: u32,
-    pub beat: u32,
+    pub beat_error: u32,
     pub spread: u32,
     pub walk: u32,
 }
@@ -24,18 +24,18 @@ fn phase_of(
     gain: u32,
     loss: u32,
     amplitude: u32,
-    beat: u32,
+    beat_error: u32,
     spread: u32,
     walk: u32,
 ) -> Phase
-    ensures { λ r. ⌜ r ≡ phaseOf count gain loss amplitude beat spread walk ⌝ }
+    ensures { λ r. ⌜ r ≡ phaseOf count gain loss amplitude «beat_error» spread walk ⌝ }
 {
     Phase {
         count,
         gain,
         loss,
         amplitude,
-        beat,
+        beat_error,
         spread,
         walk,
     }
@@ -84,10 +84,10 @@ fn add_reading(text: Text, p: Phase, i: u32) -> Text
     let walked = p.walk as f64 * i as f64 / 8.0;
     let rate = p.gain as f64 - p.loss as f64 + spread * unit(i, 53685) + walked;
     let amplitude = p.amplitude as f64 + spread * unit(i, 43977) - walked;
-    let beat = p.beat as f64 + spread * unit(i, 36025);
+    let beat_error = p.beat_error as f64 + spread * unit(i, 36025);
     let rated = add_double(text, rate);
     let swung = add_double(rated, amplitude);
-    add_double(swung, beat)
+    add_double(swung, beat_error)
 }
 
 fn add_phase(text: Text, p: Phase) -> Text

@@ -32,8 +32,8 @@ int-to-float-amplitude c = search needs
 unit-requires-2 : tie.Need-unit-requires-2
 unit-requires-2 c κs = search needs
 
-int-to-float-beat : tie.Need-int-to-float-beat
-int-to-float-beat c = search needs
+int-to-float-beat-error : tie.Need-int-to-float-beat-error
+int-to-float-beat-error c = search needs
 
 unit-requires-3 : tie.Need-unit-requires-3
 unit-requires-3 c κs = search needs
@@ -53,7 +53,7 @@ returns c =
     let p = a .p in
     both
     (both (worded (ap (λ (u : Float). doubleBytes (whole (p .gain) ⊖ whole (p .loss) ⊕ whole (p .spread) ⊗ u ⊕ walked p (a .i))) (c .before .before .before .before .before .before .before .unit .ensures)) (c .before .before .«add-double» .ensures)) (worded (ap (λ (u : Float). doubleBytes (whole (p .amplitude) ⊕ whole (p .spread) ⊗ u ⊖ walked p (a .i))) (c .before .before .before .before .before .unit2 .ensures)) (c .before .«add-double2» .ensures)))
-    (worded (ap (λ (u : Float). doubleBytes (whole (p .beat) ⊕ whole (p .spread) ⊗ u)) (c .before .before .before .unit3 .ensures)) (c .«add-double3» .ensures))
+    (worded (ap (λ (u : Float). doubleBytes (whole (p .«beat_error») ⊕ whole (p .spread) ⊗ u)) (c .before .before .before .unit3 .ensures)) (c .«add-double3» .ensures))
 
 pub add-reading-spec : {M : Type 1} → statement M
 add-reading-spec =
@@ -67,7 +67,7 @@ add-reading-spec =
     unit-requires
     int-to-float-amplitude
     unit-requires-2
-    int-to-float-beat
+    int-to-float-beat-error
     unit-requires-3
     add-double-requires
     add-double-requires-2
