@@ -1,5 +1,4 @@
-pub mod Figure
 pub mod Row
 pub mod Words
-pub mod Grid
+pub mod Plot
 pub mod Picture

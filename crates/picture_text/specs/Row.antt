@@ -23,7 +23,7 @@ rowAt centres weights labels i =
     record {
       rate = getD centres (i * 3) nan;
       amplitude = getD centres (i * 3 + 1) nan;
-      beat = getD centres (i * 3 + 2) nan;
+      «beat_error» = getD centres (i * 3 + 2) nan;
       weight = getD weights i nan;
       mark = markOf (getD labels i (pos 0));
     }

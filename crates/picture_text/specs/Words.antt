@@ -6,26 +6,26 @@ use lib.Dec.{eqb}
 use Rattle.float.specs.Rounded.{_⊗_}
 use Rattle.families_lines.specs.Ascii.{ascii}
 use Rattle.families_lines.specs.Text.{decimal}
-use Rattle.page.specs.Added.{each, right}
+use Rattle.page.specs.Added.{each}
 use Rattle.picture_text.specs.declared.row.Row.{Row}
-use Rattle.picture_text.specs.Figure.{ten, roundedOf, tenths, signed}
+use Rattle.picture_grid.specs.Figure.{ten, figureOf}
 use Rattle.picture_text.specs.Row.{letterOf}
 
 abbrev pub headingOf : (mark : ℕ) → List ℕ
 headingOf mark = cond (eqb mark 46) (ascii "no family") (ascii "family " ++ mark ∷ [] ++ ascii " ")
 
--- rate in s/d, amplitude in degrees, beat error in tenths of a millisecond
+-- rate in s/d, amplitude in degrees, beat error in tenths of a millisecond; the figures in tenths
 unfoldable pub lineOf : Row → List ℕ
 lineOf row =
     headingOf (row .mark)
     ++ ascii "  rate "
-    ++ signed 3 (row .rate)
+    ++ figureOf 3 43 (row .rate ⊗ ten)
     ++ ascii " s/d   amplitude "
-    ++ right 3 32 (roundedOf (row .amplitude))
+    ++ figureOf 3 32 (row .amplitude ⊗ ten)
     ++ ascii " deg   beat error "
-    ++ tenths 1 32 (roundedOf (row .beat))
+    ++ figureOf 1 32 (row .«beat_error»)
     ++ ascii " ms   weight "
-    ++ tenths 3 32 (roundedOf (row .weight ⊗ ten))
+    ++ figureOf 3 32 (row .weight ⊗ ten)
     ++ ascii "\n"
 
 abbrev pub lineIn : (mark : ℕ) → Row → List ℕ

@@ -1,18 +1,19 @@
-// Families in words and as a picture, from the figures of their micro-clusters: beat error against rate, a letter a family.
-mod figure;
-mod grid;
+// Families in words and as a picture, from the figures of their micro-clusters: beat error and amplitude against rate, a letter a family.
+mod plot;
 mod row;
 mod words;
 
 use families_lines::Text;
 use model::MICROS;
+use page::add;
+use picture_grid::Upward;
 pub use row::CENTRES;
 ghost use Prim.Native.Nat.{min};
 ghost use Rattle.families_lines.specs.Lent.{textOf};
 ghost use Rattle.page.specs.Added.{Added};
 ghost use Rattle.picture_text.specs.Picture.{pageOf};
 
-// The lines of the first n micro-clusters, what the alarm did, and the picture.
+// The lines of the first n micro-clusters, what the alarm did, and the two grids.
 pub fn drawn(
     text: Text,
     centres: [f64; CENTRES],
@@ -24,7 +25,15 @@ pub fn drawn(
     ensures { λ r. ⌜ Added (textOf text) (pageOf (min n 64) centres weights labels alarms) (textOf r) ⌝ }
 {
     let k = lists::cut(n, MICROS);
+    if k == 0 {
+        let none = add(text, b"no reading is held\n");
+        return words::add_alarm(none, alarms);
+    }
     let told = words::add_words(text, centres, weights, labels, k, alarms);
-    let cells = grid::plotted(centres, weights, labels, k);
-    grid::add_picture(told, cells)
+    let first = plot::add_grid(told, Upward::BeatError, centres, weights, labels, k);
+    let second = plot::add_grid(first, Upward::Amplitude, centres, weights, labels, k);
+    add(
+        second,
+        b"a letter is a family, a dot is in none; a mark in the frame lies outside it\n",
+    )
 }

@@ -13,7 +13,7 @@ pub(crate) const WEAK: u8 = b'.';
 pub struct Row {
     pub rate: f64,
     pub amplitude: f64,
-    pub beat: f64,
+    pub beat_error: f64,
     pub weight: f64,
     pub mark: u8,
 }
@@ -52,7 +52,7 @@ pub(crate) fn row_at(
     Row {
         rate: centres[i * 3],
         amplitude: centres[i * 3 + 1],
-        beat: centres[i * 3 + 2],
+        beat_error: centres[i * 3 + 2],
         weight: weights[i],
         mark: mark(labels[i]),
     }

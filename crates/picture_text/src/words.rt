@@ -1,7 +1,4 @@
 // Families in words.
-use crate::figure::add_signed;
-use crate::figure::add_tenths;
-use crate::figure::rounded;
 use crate::row::CENTRES;
 use crate::row::Row;
 use crate::row::WEAK;
@@ -10,6 +7,7 @@ use crate::row::row_at;
 use families_lines::Text;
 use model::MICROS;
 use page::add;
+use picture_grid::add_figure;
 ghost use Prim.Native.Nat.{_≤_};
 ghost use Rattle.families_lines.specs.Lent.{textOf};
 ghost use Rattle.page.specs.Added.{Added, each};
@@ -35,13 +33,13 @@ fn add_line(text: Text, row: Row) -> Text
 {
     let named = add_heading(text, row.mark);
     let rate_at = add(named, b"  rate ");
-    let rate = add_signed(rate_at, 3, row.rate);
+    let rate = add_figure(rate_at, 3, b'+', row.rate * 10.0);
     let amplitude_at = add(rate, b" s/d   amplitude ");
-    let amplitude = page::add_right(amplitude_at, 3, b' ', rounded(row.amplitude));
-    let beat_at = add(amplitude, b" deg   beat error ");
-    let beat = add_tenths(beat_at, 1, b' ', rounded(row.beat));
-    let weight_at = add(beat, b" ms   weight ");
-    let weight = add_tenths(weight_at, 3, b' ', rounded(row.weight * 10.0));
+    let amplitude = add_figure(amplitude_at, 3, b' ', row.amplitude * 10.0);
+    let beat_error_at = add(amplitude, b" deg   beat error ");
+    let beat_error = add_figure(beat_error_at, 1, b' ', row.beat_error);
+    let weight_at = add(beat_error, b" ms   weight ");
+    let weight = add_figure(weight_at, 3, b' ', row.weight * 10.0);
     add(weight, b"\n")
 }
 
@@ -96,7 +94,7 @@ fn add_families(
     t
 }
 
-fn add_alarm(text: Text, alarms: u64) -> Text
+pub(crate) fn add_alarm(text: Text, alarms: u64) -> Text
     ensures { λ r. ⌜ Added (textOf text) (alarmOf alarms) (textOf r) ⌝ }
 {
     if alarms == 0 {

@@ -63,7 +63,7 @@ mark-requires c κs = search needs
 returns : tie.Need-returns
 returns c =
     let a = c .before .before .args in
-    ap {B = Row} (λ (m : ℕ). record { rate = getD (a .t1) (a .i * 3) nan; amplitude = getD (a .t1) (a .i * 3 + 1) nan; beat = getD (a .t1) (a .i * 3 + 2) nan; weight = getD (a .t2) (a .i) nan; mark = m })
+    ap {B = Row} (λ (m : ℕ). record { rate = getD (a .t1) (a .i * 3) nan; amplitude = getD (a .t1) (a .i * 3 + 1) nan; «beat_error» = getD (a .t1) (a .i * 3 + 2) nan; weight = getD (a .t2) (a .i) nan; mark = m })
     (c .mark .ensures ∙ ap markOf {y = getD (a .t3) (a .i) (pos 0)} (toZ-ofZ (sfits-of {w = w64} (c .before .«mark-arg» .given))))
 
 pub row-at-spec : {M : Type 1} → statement M

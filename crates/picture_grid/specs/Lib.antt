@@ -1,0 +1,3 @@
+pub mod Figure
+pub mod Upward
+pub mod Grid
