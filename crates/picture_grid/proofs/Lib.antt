@@ -1,2 +1,1 @@
-pub mod Cutting
 pub mod Lines

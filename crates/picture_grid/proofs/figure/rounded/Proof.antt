@@ -1,11 +1,14 @@
 -- `rounded` meets its contract. Assumes nothing.
+use native.Mathlib.Omega.{arith}
+use lib.Ieee.{ofBits}
+use Rattle.float.specs.Cutting.{can-cut}
 use Rattle.picture_grid.specs.Figure.{roundedOf}
-use Rattle.picture_grid.proofs.Cutting.{can-cut}
 use Rattle.picture_grid.proofs.figure.rounded.Statement.{statement}
 use Rattle.picture_grid.proofs.figure.rounded.Tie as tie
 
 truncating-f64-to-u64-requires : tie.Need-truncating-f64-to-u64-requires
-truncating-f64-to-u64-requires c κs = can-cut _ (c .before .if1 .taken) (c .if2 .taken)
+unfolding ofBits
+truncating-f64-to-u64-requires c κs = can-cut _ 3125 5 (omega arith) (c .before .if1 .taken) (c .if2 .taken)
 
 returns : tie.Need-returns
 unfolding roundedOf
