@@ -154,6 +154,7 @@ enum Told {
     Stream(Figures),
 }
 
+#[cfg(feature = "product")]
 impl Told {
     /// Bit by bit.
     fn words(&self) -> Vec<u64> {
