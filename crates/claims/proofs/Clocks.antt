@@ -1,7 +1,7 @@
 -- The clock counts the accepted inserts exactly, of any stream.
 use Prim.Native.Nat.{ℕ, _+_, _^_, _≤_, _<_}
-use mathlib.Core.Path.{_≡_, refl, sym, ap, _∙_, subst}
-use mathlib.Core.Bool.{Bool, true}
+use mathlib.Core.Path.{_≡_, refl, sym, ap, _∙_}
+use mathlib.Core.Bool.{true}
 use native.Mathlib.Omega.{arith}
 use lib.Dec.{lit≤}
 use lib.Ieee.{Float, lt, ofInt, ofBits}
@@ -9,11 +9,7 @@ use borrow.Author.Tests.{ltb-true}
 use Rattle.float.specs.Rounded.{_⊕_, nought, one, whole}
 use Rattle.float.specs.Whole.{Is, whole-is, tick, lt-is}
 use Rattle.model.specs.Limits.{clockLimit, clockMost}
-use Rattle.model.specs.Questions.{insertionAsked}
-use Rattle.model.specs.Outcome.{Outcome, outcome}
-use Rattle.model.specs.Run.{oneIfDone}
 use Rattle.claims.specs.Clock.{Counts}
-use Rattle.claims.proofs.Cases.{asked-cases, none-done}
 
 limit-is : Is clockLimit clockMost
 unfolding ofBits
@@ -37,13 +33,3 @@ one-tick n t c l =
 pub starts : Counts 0 nought
 unfolding ofInt ofBits
 starts = record { exact = refl; limit = omega arith }
-
--- one insert, where a taken point moves the clock by 1
-pub counts-insert :
-    {S : Type 0} (clock : S → Float) (dim got : ℕ) (place : Bool) (came taken : S) → clock taken ≡ clock came ⊕ one →
-    (n : ℕ) → Counts n (clock came) →
-    Counts (n + oneIfDone (outcome (insertionAsked dim got (clock came) place) came taken .answer)) (clock (outcome (insertionAsked dim got (clock came) place) came taken .stream))
-counts-insert {S} clock dim got place came taken e n c =
-    asked-cases dim got (clock came) place came taken (λ (r : Outcome S). Counts (n + oneIfDone (r .answer)) (clock (r .stream)))
-    (λ a h. subst (λ (k : ℕ). Counts k (clock came)) (omega (arith, none-done a h)) c)
-    (λ l p. subst (Counts (n + 1)) (sym e) (one-tick n (clock came) c l))

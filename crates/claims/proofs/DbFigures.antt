@@ -9,29 +9,30 @@ use lib.Dec.{eqb}
 use lib.ListN.{length, length-replicate}
 use lib.Ieee.{Float}
 use borrow.Author.Tests.{lt-ltb, eqb-true}
-use Rattle.float.specs.Rounded.{nought}
+use Rattle.float.specs.Rounded.{_⊕_, nought, one}
 use Rattle.feature.specs.Feature.{empty}
-use Rattle.drift.specs.declared.Nearest.{Nearest}
 use Rattle.model.specs.declared.micro.MicroId.{MicroId}
 use Rattle.model.specs.declared.micro.DbMicro.{DbMicro}
 use Rattle.model.specs.declared.link.Link.{Link}
-use Rattle.model.specs.Outcome.{Outcome}
-use Rattle.model.specs.Run.{oneIfDone, acceptedIn}
-use Rattle.model.specs.DbState.{Settings, State, fresh}
-use Rattle.model.specs.DbInsert.{idOf, isNeighbour, newborn, absorbs, absorbed, pairOf, pairsOf, gains, absent, before, sameEnds, gainIn, hasRoom, gainOf, microStays, linkStays, neighboursOf, born, joined, placed, cleanup, advanced, tickOf, insertOf}
+use Rattle.model.specs.Run.{acceptedIn}
+use Rattle.model.specs.DbState.{Settings, Params, Holdings, State}
+use Rattle.model.specs.DbInsert.{idOf, isNeighbour, newborn, absorbs, absorbed, pairOf, pairsOf, gains, absent, before, sameEnds, gainIn, hasRoom, gainOf}
+use Rattle.model.specs.DbInsert.{microStays, linkStays, neighboursOf, born, joined, placed, nearestFor, cleanup}
+use Rattle.model.specs.Dbstream.{dbstream, takenOf, hasPlace}
+use Rattle.model.specs.Stream.{taking}
+use Rattle.model.specs.StreamLaws.{tick-cases}
 use Rattle.claims.specs.Lists.{In, Each, Ascending}
 use Rattle.claims.specs.Clock.{Counts}
 use Rattle.claims.specs.Weighed.{Weighed}
-use Rattle.claims.specs.DbClaims.{FromFresh, Figures, after, told}
+use Rattle.claims.specs.DbClaims.{Older, Figures, after, told}
 use Rattle.claims.proofs.Places.{each-in}
 use Rattle.claims.proofs.Order.{each-more, each-append, each-retain, each-map, ascending-map, ascending-append}
-use Rattle.claims.proofs.Cases.{none-done}
-use Rattle.claims.proofs.Runs.{run-keeps}
+use Rattle.claims.proofs.Runs.{always}
 use Rattle.claims.proofs.Means.{moved-length}
 use Rattle.claims.proofs.Weights.{later, gains-one, regains, above-0, zero-most, zero-least}
-use Rattle.claims.proofs.DbCases.{placed-cases, tick-cases, insert-cases}
+use Rattle.claims.proofs.DbCases.{placed-cases}
 use Rattle.claims.proofs.DbGains.{Smaller, pairs-each}
-use Rattle.claims.proofs.DbFresh.{neighbours-ascend, fresh-insert, is-fresh}
+use Rattle.claims.proofs.DbFresh.{Numbered, neighbours-ascend, numbered-taken, numbered-fresh}
 
 -- ---- the pairs of an insert are all different: they ascend
 abbrev PairBefore : MicroId × MicroId → MicroId × MicroId → Type 0
@@ -105,80 +106,89 @@ module _ (lambda t : Float) where
     gain-all [] u ls g = g
     gain-all (p ∷ ps) u ls g = gain-all ps (u .1) (gainOf lambda t ls p) (gain-one p ps (u .0) ls g)
 
--- ---- an insert
-figures-joined : (n : ℕ) (s : State) (x : List Float) → FromFresh n s → Figures n s → Figures (n + 1) (joined s x)
-figures-joined n s x f g =
+-- what is kept of the micro-clusters and links of dim coordinates
+record Kept (n dim : ℕ) (h : Holdings) : Type 0 where
+  means : Each (λ (m : DbMicro). length (m .cf .mean) ≡ dim) (h .micros)
+  weights : Each (λ (m : DbMicro). Weighed n (m .cf .w) (m .last)) (h .micros)
+  densities : Each (λ (l : Link). Weighed n (l .value) (l .last)) (h .links)
+
+-- ---- a point taken
+figures-joined :
+    (n : ℕ) (s : State) (x : List Float) → Counts n (s .t) → Ascending Older (s .held .micros) → Kept n (s .params .dim) (s .held) →
+    Kept (n + 1) (s .params .dim) (joined s x)
+figures-joined n s x f asc g =
     record {
-      means = each-map (λ (m : DbMicro). length (m .cf .mean) ≡ s .settings .dim) (λ (m : DbMicro). length (m .cf .mean) ≡ s .settings .dim) join
-          (λ (m : DbMicro) e. mean m e (isNeighbour (s .settings .r) x m)) (s .micros) (g .means);
+      means = each-map (λ (m : DbMicro). length (m .cf .mean) ≡ s .params .dim) (λ (m : DbMicro). length (m .cf .mean) ≡ s .params .dim) join
+          (λ (m : DbMicro) e. mean m e (isNeighbour (s .params .r) x m)) (s .held .micros) (g .means);
       weights = each-map (λ (m : DbMicro). Weighed n (m .cf .w) (m .last)) (λ (m : DbMicro). Weighed (n + 1) (m .cf .w) (m .last)) join
-          (λ (m : DbMicro) e. weight m e (isNeighbour (s .settings .r) x m)) (s .micros) (g .weights);
+          (λ (m : DbMicro) e. weight m e (isNeighbour (s .params .r) x m)) (s .held .micros) (g .weights);
       densities = each-more (λ (l : Link) w. w .0) (joined s x .links)
-          (gain-all (s .settings .lambda) (s .t) n (f .clock) (pairsOf (map idOf (neighboursOf s x)))
-          (pairs-ascend (map idOf (neighboursOf s x)) (neighbours-ascend s x (f .ascending))) (s .links)
-          (each-more (λ (l : Link) (w : Weighed n (l .value) (l .last)). (later n (l .value) (l .last) (f .clock .limit) w, (λ i. w))) (s .links) (g .densities)));
+          (gain-all (s .params .lambda) (s .t) n f (pairsOf (map idOf (neighboursOf s x)))
+          (pairs-ascend (map idOf (neighboursOf s x)) (neighbours-ascend s x asc)) (s .held .links)
+          (each-more (λ (l : Link) (w : Weighed n (l .value) (l .last)). (later n (l .value) (l .last) (f .limit) w, (λ i. w))) (s .held .links)
+          (g .densities)));
     }
   where
     join : DbMicro → DbMicro
-    join = absorbed (s .settings .r) (s .settings .lambda) (s .t) x
+    join = absorbed (s .params .r) (s .params .lambda) (s .t) x
 
-    mean : (m : DbMicro) → length (m .cf .mean) ≡ s .settings .dim → (b : Bool) → length (cond b (absorbs (s .settings .lambda) (s .t) x m) m .cf .mean) ≡ s .settings .dim
+    mean :
+        (m : DbMicro) → length (m .cf .mean) ≡ s .params .dim → (b : Bool) →
+        length (cond b (absorbs (s .params .lambda) (s .t) x m) m .cf .mean) ≡ s .params .dim
     mean m e true = moved-length _ (m .cf .mean) x ∙ e
     mean m e false = e
 
-    weight : (m : DbMicro) → Weighed n (m .cf .w) (m .last) → (b : Bool) → Weighed (n + 1) (cond b (absorbs (s .settings .lambda) (s .t) x m) m .cf .w) (cond b (absorbs (s .settings .lambda) (s .t) x m) m .last)
-    weight m w true = regains n (m .cf .w) (m .last) (s .settings .lambda) (s .t) (f .clock) (above-0 (m .cf .w) (w .least)) (w .most)
-    weight m w false = later n (m .cf .w) (m .last) (f .clock .limit) w
+    weight :
+        (m : DbMicro) → Weighed n (m .cf .w) (m .last) → (b : Bool) →
+        Weighed (n + 1) (cond b (absorbs (s .params .lambda) (s .t) x m) m .cf .w) (cond b (absorbs (s .params .lambda) (s .t) x m) m .last)
+    weight m w true = regains n (m .cf .w) (m .last) (s .params .lambda) (s .t) f (above-0 (m .cf .w) (w .least)) (w .most)
+    weight m w false = later n (m .cf .w) (m .last) (f .limit) w
 
-figures-born : (n : ℕ) (s : State) (x : List Float) → FromFresh n s → Figures n s → Figures (n + 1) (born s x)
-figures-born n s x f g =
+figures-born :
+    (n : ℕ) (s : State) (x : List Float) → Counts n (s .t) → Ascending Older (s .held .micros) → Kept n (s .params .dim) (s .held) →
+    Kept (n + 1) (s .params .dim) (born s x)
+figures-born n s x f asc g =
     record {
-      means = each-append (λ (m : DbMicro). length (m .cf .mean) ≡ s .settings .dim) (s .micros) (new ∷ []) (g .means)
-          (moved-length _ (empty (s .settings .dim) .mean) x ∙ length-replicate (s .settings .dim) nought, tt);
-      weights = each-append (λ (m : DbMicro). Weighed (n + 1) (m .cf .w) (m .last)) (s .micros) (new ∷ [])
-          (each-more (λ (m : DbMicro) w. later n (m .cf .w) (m .last) (f .clock .limit) w) (s .micros) (g .weights))
-          (gains-one n nought (s .t) (f .clock) zero-least (zero-most n (f .clock .limit)), tt);
-      densities = each-more (λ (l : Link) w. later n (l .value) (l .last) (f .clock .limit) w) (s .links) (g .densities);
+      means = each-append (λ (m : DbMicro). length (m .cf .mean) ≡ s .params .dim) (s .held .micros) (new ∷ []) (g .means)
+          (moved-length _ (empty (s .params .dim) .mean) x ∙ length-replicate (s .params .dim) nought, tt);
+      weights = each-append (λ (m : DbMicro). Weighed (n + 1) (m .cf .w) (m .last)) (s .held .micros) (new ∷ [])
+          (each-more (λ (m : DbMicro) w. later n (m .cf .w) (m .last) (f .limit) w) (s .held .micros) (g .weights))
+          (gains-one n nought (s .t) f zero-least (zero-most n (f .limit)), tt);
+      densities = each-more (λ (l : Link) w. later n (l .value) (l .last) (f .limit) w) (s .held .links) (g .densities);
     }
   where
     new : DbMicro
-    new = newborn (s .settings .dim) (record { 0 = s .next }) (s .t) x
+    new = newborn (s .params .dim) (record { 0 = s .held .next }) (s .t) x
 
-figures-tick : (n : ℕ) (s : State) (d : Nearest) → Figures n s → Figures n (tickOf s d)
-figures-tick n s d g =
-    tick-cases (Figures n) s d
-    (record {
-      means = each-retain (λ (m : DbMicro). length (m .cf .mean) ≡ s .settings .dim) stays (s .micros) (g .means);
-      weights = each-retain (λ (m : DbMicro). Weighed n (m .cf .w) (m .last)) stays (s .micros) (g .weights);
-      densities = each-retain (λ (l : Link). Weighed n (l .value) (l .last)) keep (s .links) (g .densities);
-    })
-    (record { means = g .means; weights = g .weights; densities = g .densities })
-  where
-    u : State
-    u = advanced s d
-
-    stays : DbMicro → Bool
-    stays = microStays (s .settings .lambda) (s .floor) (u .t)
-
-    keep : Link → Bool
-    keep = linkStays (s .settings .lambda) (s .floor) (u .t) (cleanup u .micros)
+figures-cleanup : (n dim : ℕ) (p : Params) (t : Float) (h : Holdings) → Kept n dim h → Kept n dim (cleanup p t h)
+figures-cleanup n dim p t h g =
+    record {
+      means = each-retain (λ (m : DbMicro). length (m .cf .mean) ≡ dim) (microStays (p .lambda) (p .floor) t) (h .micros) (g .means);
+      weights = each-retain (λ (m : DbMicro). Weighed n (m .cf .w) (m .last)) (microStays (p .lambda) (p .floor) t) (h .micros) (g .weights);
+      densities = each-retain (λ (l : Link). Weighed n (l .value) (l .last)) (linkStays (p .lambda) (p .floor) t (cleanup p t h .micros)) (h .links)
+          (g .densities);
+    }
 
 -- ---- the whole run
 record Both (n : ℕ) (s : State) : Type 0 where
-  fromFresh : FromFresh n s
-  figures : Figures n s
+  numbered : Numbered n (s .held)
+  kept : Kept n (s .params .dim) (s .held)
 
-both-insert : (n : ℕ) (s : State) (x : List Float) → Both n s → Both (n + oneIfDone (insertOf s x .answer)) (insertOf s x .stream)
-both-insert n s x b =
+both-taken : (n : ℕ) (s : State) (x : List Float) → Counts n (s .t) → hasPlace s x ≡ true → Both n s → Both (n + 1) (takenOf s x)
+both-taken n s x c e b =
     record {
-      fromFresh = fresh-insert n s x (b .fromFresh);
-      figures = insert-cases (λ (r : Outcome State). Figures (n + oneIfDone (r .answer)) (r .stream)) s x
-          (λ a h. subst (λ (k : ℕ). Figures k s) (omega (arith, none-done a h)) (b .figures))
-          (λ l e. figures-tick (n + 1) (placed s x) _
-          (placed-cases (Figures (n + 1)) s x (λ q. figures-joined n s x (b .fromFresh) (b .figures)) (λ q. figures-born n s x (b .fromFresh) (b .figures))));
+      numbered = numbered-taken n s x (c .limit) (b .numbered);
+      kept = tick-cases dbstream (taking s (placed s x)) (nearestFor s x) (λ (u : State). Kept (n + 1) (u .params .dim) (u .held))
+          (figures-cleanup (n + 1) (s .params .dim) (s .params) (s .t ⊕ one) (placed s x) k) k;
     }
+  where
+    k : Kept (n + 1) (s .params .dim) (placed s x)
+    k =
+        placed-cases (Kept (n + 1) (s .params .dim)) s x (λ q. figures-joined n s x c (b .numbered .ascending) (b .kept))
+        (λ q. figures-born n s x c (b .numbered .ascending) (b .kept))
 
 pub figures : (p : Settings) (xs : List (List Float)) → Figures (acceptedIn (told p xs)) (after p xs)
 figures p xs =
-    subst (λ (k : ℕ). Figures k (after p xs)) (omega arith)
-    (run-keeps insertOf Both both-insert xs 0 (fresh p) (record { fromFresh = is-fresh p; figures = record { means = tt; weights = tt; densities = tt } }) .figures)
+    let k : Kept (acceptedIn (told p xs)) (after p xs .params .dim) (after p xs .held) =
+    always dbstream hasPlace Both both-taken p (record { numbered = numbered-fresh p; kept = record { means = tt; weights = tt; densities = tt } }) xs .kept in
+    record { means = k .means; weights = k .weights; densities = k .densities }

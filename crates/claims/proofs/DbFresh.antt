@@ -1,7 +1,6 @@
 -- A DBSTREAM from fresh: its clock, its creation numbers and its links, through every insert.
 use Prim.Native.Nat.{ℕ, _+_, _%_, _^_, _<_, _≤_}
 use mathlib.Core.Path.{_≡_, refl, sym, ap, _∙_, subst}
-use mathlib.Core.Logic.{_≢_}
 use mathlib.Core.Bool.{Bool, true, false, not, cond}
 use mathlib.Core.List.{List, [], _∷_, _++_, map}
 use native.Mathlib.Omega.{arith}
@@ -10,24 +9,23 @@ use lib.Ieee.{Float, lt}
 use borrow.Author.Tests.{eqb-true}
 use Rattle.float.specs.Rounded.{_⊕_, one}
 use Rattle.lists.specs.Retain.{retain}
-use Rattle.drift.specs.declared.Nearest.{Nearest}
+use Rattle.drift.specs.declared.Nearest.the-variants.{Nothing}
 use Rattle.model.specs.declared.micro.MicroId.{MicroId}
 use Rattle.model.specs.declared.micro.DbMicro.{DbMicro}
 use Rattle.model.specs.declared.link.Link.{Link}
-use Rattle.model.specs.declared.answers.Insertion.the-variants.{Done}
-use Rattle.model.specs.Limits.{clockLimit, clockMost}
-use Rattle.model.specs.Outcome.{Outcome}
-use Rattle.model.specs.Run.{oneIfDone, acceptedIn}
-use Rattle.model.specs.DbState.{Settings, State, fresh}
-use Rattle.model.specs.DbInsert.{idOf, isNeighbour, newborn, absorbed, absorbs, pairsOf, gainIn, gainOf, absent, hasRoom, fadedLink, microStays, linkStays, isHeld, neighboursOf, born, joined, placed, cleanup, advanced, tickOf, takenOf, insertOf}
+use Rattle.model.specs.Limits.{clockMost}
+use Rattle.model.specs.Run.{acceptedIn}
+use Rattle.model.specs.DbState.{Settings, Params, Holdings, State}
+use Rattle.model.specs.DbInsert.{leastOf, idOf, isNeighbour, newborn, absorbed, absorbs, pairsOf, gainIn, gainOf, absent, hasRoom, fadedLink, microStays}
+use Rattle.model.specs.DbInsert.{linkStays, isHeld, neighboursOf, born, joined, placed, nearestFor, cleanup}
+use Rattle.model.specs.Dbstream.{dbstream, hasPlace, fresh, takenOf}
+use Rattle.model.specs.Stream.{taking}
+use Rattle.model.specs.StreamLaws.{tick-cases}
 use Rattle.claims.specs.Lists.{In, Each, Ascending}
-use Rattle.claims.specs.Clock.{Counts}
 use Rattle.claims.specs.DbClaims.{Older, Before, Live, LinksHeld, FromFresh, after, told}
 use Rattle.claims.proofs.Order.{and-true, each-more, each-append, ascending-snoc, in-append, each-retain, ascending-retain, retain-passes, in-retain, any-in, each-map, ascending-map, in-map, map-in}
-use Rattle.claims.proofs.Cases.{none-done}
-use Rattle.claims.proofs.Clocks.{one-tick, starts}
-use Rattle.claims.proofs.Runs.{run-keeps}
-use Rattle.claims.proofs.DbCases.{placed-cases, tick-cases, insert-cases}
+use Rattle.claims.proofs.Runs.{always, clock-counts}
+use Rattle.claims.proofs.DbCases.{placed-cases}
 use Rattle.claims.proofs.DbGains.{Smaller, gain-each, gain-ascending, fold-gain, pairs-each}
 
 -- both ends are held
@@ -72,165 +70,154 @@ absorbed-id r lambda t x m = go (isNeighbour r x m)
 -- what an insert joins: pairs of live numbers, the smaller first, and links that are held by the micro-clusters with the point absorbed
 pub record Joining (s : State) (x : List Float) : Type 0 where
   pub pairs : Each (GoodPair (joined s x .micros)) (pairsOf (map idOf (neighboursOf s x)))
-  pub links : LinksHeld (joined s x .micros) (s .links)
+  pub links : LinksHeld (joined s x .micros) (s .held .links)
 
-pub neighbours-ascend : (s : State) (x : List Float) → Ascending Older (s .micros) → Ascending Smaller (map idOf (neighboursOf s x))
+pub neighbours-ascend : (s : State) (x : List Float) → Ascending Older (s .held .micros) → Ascending Smaller (map idOf (neighboursOf s x))
 neighbours-ascend s x u =
     ascending-map Older Smaller idOf (λ (a b : DbMicro) (h : Older a b). h) (neighboursOf s x)
-    (ascending-retain Older (isNeighbour (s .settings .r) x) (s .micros) u)
+    (ascending-retain Older (isNeighbour (s .params .r) x) (s .held .micros) u)
 
-pub joining : (s : State) (x : List Float) → Ascending Older (s .micros) → LinksHeld (s .micros) (s .links) → Joining s x
+pub joining : (s : State) (x : List Float) → Ascending Older (s .held .micros) → LinksHeld (s .held .micros) (s .held .links) → Joining s x
 joining s x u g =
     record {
       pairs = pairs-each (λ a b. Smaller a b × (Live ms (a .0) × Live ms (b .0))) (map idOf (neighboursOf s x)) (neighbours-ascend s x u)
           (λ a b i j l. (l, (known a i, known b j)));
-      links = more-live (s .micros) ms live (s .links) g;
+      links = more-live (s .held .micros) ms live (s .held .links) g;
     }
   where
     ms : List DbMicro
     ms = joined s x .micros
 
-    live : (a : ℕ) → Live (s .micros) a → Live (joined s x .micros) a
+    live : (a : ℕ) → Live (s .held .micros) a → Live (joined s x .micros) a
     live a l =
-        let f : DbMicro → DbMicro = absorbed (s .settings .r) (s .settings .lambda) (s .t) x in
-        (f (l .0), in-map f (s .micros) (l .0) (l .1), ap (λ (i : MicroId). i .0) (absorbed-id (s .settings .r) (s .settings .lambda) (s .t) x (l .0)) ∙ l .2)
+        let f : DbMicro → DbMicro = absorbed (s .params .r) (s .params .lambda) (s .t) x in
+        (f (l .0), in-map f (s .held .micros) (l .0) (l .1), ap (λ (i : MicroId). i .0) (absorbed-id (s .params .r) (s .params .lambda) (s .t) x (l .0)) ∙ l .2)
 
     known : (a : MicroId) → In a (map idOf (neighboursOf s x)) → Live (joined s x .micros) (a .0)
     known a i =
         let m = map-in idOf (neighboursOf s x) a i in
-        live (a .0) (m .0, in-retain (isNeighbour (s .settings .r) x) (s .micros) (m .0) (m .1), ap (λ (i : MicroId). i .0) (sym (m .2)))
+        live (a .0) (m .0, in-retain (isNeighbour (s .params .r) x) (s .held .micros) (m .0) (m .1), ap (λ (i : MicroId). i .0) (sym (m .2)))
 
 -- all of `FromFresh` but the clock
-record Numbered (n : ℕ) (s : State) : Type 0 where
-  ascending : Ascending Older (s .micros)
-  belowNext : Each (λ (m : DbMicro). m .id .0 < s .next) (s .micros)
-  nextLimit : s .next ≤ n
-  links : LinksHeld (s .micros) (s .links)
+pub record Numbered (n : ℕ) (h : Holdings) : Type 0 where
+  pub ascending : Ascending Older (h .micros)
+  pub belowNext : Each (λ (m : DbMicro). m .id .0 < h .next) (h .micros)
+  pub nextLimit : h .next ≤ n
+  pub links : LinksHeld (h .micros) (h .links)
 
-pub joined-ascends : (s : State) (x : List Float) → Ascending Older (s .micros) → Ascending Older (joined s x .micros)
-joined-ascends s x u = ascending-map Older Older f (λ (a b : DbMicro) (h : Older a b). subst (λ (k : MicroId). k .0 < f b .id .0) (sym (keeps a)) (subst (λ (k : MicroId). a .id .0 < k .0) (sym (keeps b)) h)) (s .micros) u
+pub joined-ascends : (s : State) (x : List Float) → Ascending Older (s .held .micros) → Ascending Older (joined s x .micros)
+joined-ascends s x u =
+    ascending-map Older Older f (λ (a b : DbMicro) (h : Older a b). subst (λ (k : MicroId). k .0 < f b .id .0) (sym (keeps a))
+    (subst (λ (k : MicroId). a .id .0 < k .0) (sym (keeps b)) h)) (s .held .micros) u
   where
     f : DbMicro → DbMicro
-    f = absorbed (s .settings .r) (s .settings .lambda) (s .t) x
+    f = absorbed (s .params .r) (s .params .lambda) (s .t) x
 
     keeps : (m : DbMicro) → f m .id ≡ m .id
-    keeps m = absorbed-id (s .settings .r) (s .settings .lambda) (s .t) x m
+    keeps m = absorbed-id (s .params .r) (s .params .lambda) (s .t) x m
 
-numbered-joined : (n : ℕ) (s : State) (x : List Float) → Numbered n s → Numbered (n + 1) (joined s x)
+numbered-joined : (n : ℕ) (s : State) (x : List Float) → Numbered n (s .held) → Numbered (n + 1) (joined s x)
 numbered-joined n s x g =
     record {
       ascending = joined-ascends s x (g .ascending);
-      belowNext = each-map (λ (m : DbMicro). m .id .0 < s .next) (λ (m : DbMicro). m .id .0 < s .next) f
-          (λ (m : DbMicro) (h : m .id .0 < s .next). subst (λ (k : MicroId). k .0 < s .next) (sym (absorbed-id (s .settings .r) (s .settings .lambda) (s .t) x m)) h) (s .micros) (g .belowNext);
-      nextLimit = (let l : s .next ≤ n = g .nextLimit in omega arith);
-      links = fold-gain (s .settings .lambda) (s .t) (LinksHeld (joined s x .micros)) (GoodPair (joined s x .micros))
-          (one-gain (s .settings .lambda) (s .t) (joined s x .micros)) (pairsOf (map idOf (neighboursOf s x))) (s .links) (j .pairs) (j .links);
+      belowNext = each-map (λ (m : DbMicro). m .id .0 < s .held .next) (λ (m : DbMicro). m .id .0 < s .held .next) f
+          (λ (m : DbMicro) (h : m .id .0 < s .held .next). subst (λ (k : MicroId). k .0 < s .held .next)
+          (sym (absorbed-id (s .params .r) (s .params .lambda) (s .t) x m)) h) (s .held .micros) (g .belowNext);
+      nextLimit = (let l : s .held .next ≤ n = g .nextLimit in omega arith);
+      links = fold-gain (s .params .lambda) (s .t) (LinksHeld (joined s x .micros)) (GoodPair (joined s x .micros))
+          (one-gain (s .params .lambda) (s .t) (joined s x .micros)) (pairsOf (map idOf (neighboursOf s x))) (s .held .links) (j .pairs) (j .links);
     }
   where
     f : DbMicro → DbMicro
-    f = absorbed (s .settings .r) (s .settings .lambda) (s .t) x
+    f = absorbed (s .params .r) (s .params .lambda) (s .t) x
 
     j : Joining s x
     j = joining s x (g .ascending) (g .links)
 
 -- ---- a new micro-cluster
-numbered-born : (n : ℕ) (s : State) (x : List Float) → n ≤ clockMost → Numbered n s → Numbered (n + 1) (born s x)
+numbered-born : (n : ℕ) (s : State) (x : List Float) → n ≤ clockMost → Numbered n (s .held) → Numbered (n + 1) (born s x)
 numbered-born n s x small g =
     record {
-      ascending = ascending-snoc Older (s .micros) new (g .ascending) (g .belowNext);
-      belowNext = each-append (λ (m : DbMicro). m .id .0 < (s .next + 1) % 2 ^ 64) (s .micros) (new ∷ [])
-          (each-more (λ (m : DbMicro) (h : m .id .0 < s .next). subst (λ (k : ℕ). m .id .0 < k) (sym grows) (omega arith)) (s .micros) (g .belowNext))
-          (subst (λ (k : ℕ). s .next < k) (sym grows) (omega arith), tt);
-      nextLimit = subst (λ (k : ℕ). k ≤ n + 1) (sym grows) (let l : s .next ≤ n = g .nextLimit in omega arith);
-      links = more-live (s .micros) (s .micros ++ (new ∷ [])) (λ a l. (l .0, in-append (l .0) (s .micros) (new ∷ []) (l .1), l .2)) (s .links) (g .links);
+      ascending = ascending-snoc Older (s .held .micros) new (g .ascending) (g .belowNext);
+      belowNext = each-append (λ (m : DbMicro). m .id .0 < (s .held .next + 1) % 2 ^ 64) (s .held .micros) (new ∷ [])
+          (each-more (λ (m : DbMicro) (h : m .id .0 < s .held .next). subst (λ (k : ℕ). m .id .0 < k) (sym grows) (omega arith)) (s .held .micros)
+          (g .belowNext))
+          (subst (λ (k : ℕ). s .held .next < k) (sym grows) (omega arith), tt);
+      nextLimit = subst (λ (k : ℕ). k ≤ n + 1) (sym grows) (let l : s .held .next ≤ n = g .nextLimit in omega arith);
+      links = more-live (s .held .micros) (s .held .micros ++ (new ∷ [])) (λ a l. (l .0, in-append (l .0) (s .held .micros) (new ∷ []) (l .1), l .2))
+          (s .held .links) (g .links);
     }
   where
     new : DbMicro
-    new = newborn (s .settings .dim) (record { 0 = s .next }) (s .t) x
+    new = newborn (s .params .dim) (record { 0 = s .held .next }) (s .t) x
 
-    grows : (s .next + 1) % 2 ^ 64 ≡ s .next + 1
-    grows = let l : s .next ≤ n = g .nextLimit in omega arith
+    grows : (s .held .next + 1) % 2 ^ 64 ≡ s .held .next + 1
+    grows = let l : s .held .next ≤ n = g .nextLimit in omega arith
 
-numbered-placed : (n : ℕ) (s : State) (x : List Float) → n ≤ clockMost → Numbered n s → Numbered (n + 1) (placed s x)
+numbered-placed : (n : ℕ) (s : State) (x : List Float) → n ≤ clockMost → Numbered n (s .held) → Numbered (n + 1) (placed s x)
 numbered-placed n s x small g = placed-cases (Numbered (n + 1)) s x (λ e. numbered-joined n s x g) (λ e. numbered-born n s x small g)
 
--- ---- the tick
-numbered-cleanup : (n : ℕ) (s : State) → Numbered n s → Numbered n (cleanup s)
-numbered-cleanup n s g =
+-- ---- the cleanup
+numbered-cleanup : (n : ℕ) (p : Params) (t : Float) (h : Holdings) → Numbered n h → Numbered n (cleanup p t h)
+numbered-cleanup n p t h g =
     record {
-      ascending = ascending-retain Older stays (s .micros) (g .ascending);
-      belowNext = each-retain (λ (m : DbMicro). m .id .0 < s .next) stays (s .micros) (g .belowNext);
+      ascending = ascending-retain Older stays (h .micros) (g .ascending);
+      belowNext = each-retain (λ (m : DbMicro). m .id .0 < h .next) stays (h .micros) (g .belowNext);
       nextLimit = g .nextLimit;
       links = record {
-        ascending = ascending-retain Before keep (s .links) (g .links .ascending);
-        smallerFirst = each-retain (λ (l : Link). l .lo .0 < l .hi .0) keep (s .links) (g .links .smallerFirst);
-        ends = each-more held (retain keep (s .links)) (retain-passes keep (s .links));
+        ascending = ascending-retain Before keep (h .links) (g .links .ascending);
+        smallerFirst = each-retain (λ (l : Link). l .lo .0 < l .hi .0) keep (h .links) (g .links .smallerFirst);
+        ends = each-more live-ends (retain keep (h .links)) (retain-passes keep (h .links));
       };
     }
   where
     stays : DbMicro → Bool
-    stays = microStays (s .settings .lambda) (s .floor) (s .t)
+    stays = microStays (p .lambda) (p .floor) t
 
     ms : List DbMicro
-    ms = retain stays (s .micros)
+    ms = retain stays (h .micros)
 
     keep : Link → Bool
-    keep = linkStays (s .settings .lambda) (s .floor) (s .t) ms
+    keep = linkStays (p .lambda) (p .floor) t ms
 
     is-live : (a : MicroId) → isHeld ms a ≡ true → Live ms (a .0)
     is-live a e = let m = any-in (λ (m : DbMicro). eqb (m .id .0) (a .0)) ms e in (m .0, m .1, eqb-true (m .0 .id .0) (a .0) (m .2))
 
-    held : (l : Link) → keep l ≡ true → Held ms l
-    held l e =
-        let b = and-true (isHeld ms (l .lo)) (isHeld ms (l .hi)) (not (lt (fadedLink (s .settings .lambda) (s .t) l) (s .floor))) e in
+    live-ends : (l : Link) → keep l ≡ true → Held ms l
+    live-ends l e =
+        let b = and-true (isHeld ms (l .lo)) (isHeld ms (l .hi)) (not (lt (fadedLink (p .lambda) t l) (p .floor))) e in
         (is-live (l .lo) (b .0), is-live (l .hi) (b .1))
 
-numbered-tick : (n : ℕ) (s : State) (d : Nearest) → Numbered n s → Numbered n (tickOf s d)
-numbered-tick n s d g = tick-cases (Numbered n) s d (numbered-cleanup n (advanced s d) u) u
+-- ---- a point taken
+pub numbered-taken : (n : ℕ) (s : State) (x : List Float) → n ≤ clockMost → Numbered n (s .held) → Numbered (n + 1) (takenOf s x .held)
+numbered-taken n s x small g =
+    tick-cases dbstream (taking s (placed s x)) (nearestFor s x) (λ (u : State). Numbered (n + 1) (u .held))
+    (numbered-cleanup (n + 1) (s .params) (s .t ⊕ one) (placed s x) h) h
   where
-    u : Numbered n (advanced s d)
-    u = record { ascending = g .ascending; belowNext = g .belowNext; nextLimit = g .nextLimit; links = g .links }
+    h : Numbered (n + 1) (placed s x)
+    h = numbered-placed n s x small g
 
--- a taken point moves the clock by 1
-pub taken-clock : (s : State) (x : List Float) → takenOf s x .t ≡ s .t ⊕ one
-taken-clock s x =
-    tick-cases (λ (u : State). u .t ≡ placed s x .t ⊕ one) (placed s x) _ refl refl
-    ∙ ap (λ (t : Float). t ⊕ one) (placed-cases (λ (u : State). u .t ≡ s .t) s x (λ e. refl) (λ e. refl))
+pub numbered-fresh : (p : Settings) → Numbered 0 (fresh p .held)
+numbered-fresh p =
+    record { ascending = tt; belowNext = tt; nextLimit = omega arith; links = record { ascending = tt; smallerFirst = tt; ends = tt } }
 
--- ---- an insert
-taken : (n : ℕ) (s : State) (x : List Float) → lt (s .t) clockLimit ≡ true → FromFresh n s → FromFresh (n + 1) (takenOf s x)
-taken n s x l f =
-    let g : Numbered (n + 1) (takenOf s x) =
-    numbered-tick (n + 1) (placed s x) _
-    (numbered-placed n s x (f .clock .limit) (record { ascending = f .ascending; belowNext = f .belowNext; nextLimit = f .nextLimit; links = f .links })) in
+-- ---- a fresh one holds nothing near
+pub none-near : (p : Settings) (x : List Float) → nearestFor (fresh p) x ≡ Nothing
+unfolding leastOf
+none-near p x = refl
+
+-- ---- the whole run
+pub numbered-run : (p : Settings) (xs : List (List Float)) → Numbered (acceptedIn (told p xs)) (after p xs .held)
+numbered-run p xs =
+    always dbstream hasPlace (λ (n : ℕ) (s : State). Numbered n (s .held)) (λ n s x c e. numbered-taken n s x (c .limit)) p (numbered-fresh p) xs
+
+pub from-fresh : (p : Settings) (xs : List (List Float)) → FromFresh (acceptedIn (told p xs)) (after p xs)
+from-fresh p xs =
+    let g : Numbered (acceptedIn (told p xs)) (after p xs .held) = numbered-run p xs in
     record {
-      clock = subst (Counts (n + 1)) (sym (taken-clock s x)) (one-tick n (s .t) (f .clock) l);
+      clock = clock-counts dbstream hasPlace p xs;
       ascending = g .ascending;
       belowNext = g .belowNext;
       nextLimit = g .nextLimit;
       links = g .links;
     }
-
-pub fresh-insert : (n : ℕ) (s : State) (x : List Float) → FromFresh n s → FromFresh (n + oneIfDone (insertOf s x .answer)) (insertOf s x .stream)
-fresh-insert n s x f =
-    insert-cases (λ (r : Outcome State). FromFresh (n + oneIfDone (r .answer)) (r .stream)) s x
-    (λ a h. subst (λ (k : ℕ). FromFresh k s) (omega (arith, none-done a h)) f) (λ l e. taken n s x l f)
-
--- a refused insert changes nothing
-pub refused-nothing : (s : State) (x : List Float) → insertOf s x .answer ≢ Done → insertOf s x .stream ≡ s
-refused-nothing s x =
-    insert-cases (λ (r : Outcome State). r .answer ≢ Done → r .stream ≡ s) s x (λ a h k. refl) (λ l e k. absurd (k refl))
-
--- ---- the whole run
-pub is-fresh : (p : Settings) → FromFresh 0 (fresh p)
-is-fresh p =
-    record {
-      clock = starts;
-      ascending = tt;
-      belowNext = tt;
-      nextLimit = omega arith;
-      links = record { ascending = tt; smallerFirst = tt; ends = tt };
-    }
-
-pub from-fresh : (p : Settings) (xs : List (List Float)) → FromFresh (acceptedIn (told p xs)) (after p xs)
-from-fresh p xs = subst (λ (k : ℕ). FromFresh k (after p xs)) (omega arith) (run-keeps insertOf FromFresh fresh-insert xs 0 (fresh p) (is-fresh p))

@@ -18,7 +18,8 @@ use Rattle.model.specs.declared.link.Link.{Link}
 use Rattle.model.specs.Limits.{microsMost}
 use Rattle.model.specs.Families.{labelsBy}
 use Rattle.model.specs.DbState.{State}
-use Rattle.model.specs.DbCluster.{placeOf, isStrong, strongOnes, strongAt, isDense, endsOf, joins, joinsOf, labelsOf, clusterOf}
+use Rattle.model.specs.DbCluster.{placeOf, isStrong, strongOnes, strongAt, isDense, endsOf, joins, joinsOf, labelsOf}
+use Rattle.model.specs.Dbstream.{clusterOf}
 use Rattle.claims.specs.Lists.{At, In, Ascending}
 use Rattle.claims.specs.DbClaims.{Older, StrongNumber, Step, LabelsTellFamilies}
 use Rattle.claims.proofs.Order.{and-true}
@@ -41,8 +42,8 @@ module _ (s : State) where
     link : Link
     held : In link ls
     does : joins s link ≡ true
-    lo : i ≡ placeOf (s .micros) (link .lo)
-    hi : j ≡ placeOf (s .micros) (link .hi)
+    lo : i ≡ placeOf (s .held .micros) (link .lo)
+    hi : j ≡ placeOf (s .held .micros) (link .hi)
 
   joined-by : (ls : List Link) (i j : ℕ) → Listed (joinsOf s ls) i j → JoinedBy ls i j
   unfolding joinsOf
@@ -56,58 +57,70 @@ module _ (s : State) where
       go true e k ih = ⊎-elim (λ q. record { link = l; held = inl refl; does = e; lo = q .0; hi = q .1 }) (λ q. later (ih q)) k
       go false e k ih = later (ih k)
 
-  by-joined : (ls : List Link) (l : Link) → In l ls → joins s l ≡ true → Listed (joinsOf s ls) (placeOf (s .micros) (l .lo)) (placeOf (s .micros) (l .hi))
+  by-joined :
+      (ls : List Link) (l : Link) → In l ls → joins s l ≡ true → Listed (joinsOf s ls) (placeOf (s .held .micros) (l .lo)) (placeOf (s .held .micros) (l .hi))
   unfolding joinsOf
   by-joined [] l h e = absurd h
   by-joined (k ∷ ls) l h e = go (joins s k) refl (by-joined ls l)
     where
       Goal : List (ℕ × ℕ) → Type 0
-      Goal es = Listed es (placeOf (s .micros) (l .lo)) (placeOf (s .micros) (l .hi))
+      Goal es = Listed es (placeOf (s .held .micros) (l .lo)) (placeOf (s .held .micros) (l .hi))
 
       same : l ≡ k → joins s k ≡ true
       same q = ap (joins s) (sym q) ∙ e
 
       go : (b : Bool) → joins s k ≡ b → (In l ls → joins s l ≡ true → Goal (joinsOf s ls)) → Goal (cond b (endsOf s k ∷ joinsOf s ls) (joinsOf s ls))
-      go true r ih = ⊎-elim (λ q. inl (ap (λ (u : Link). placeOf (s .micros) (u .lo)) q, ap (λ (u : Link). placeOf (s .micros) (u .hi)) q)) (λ q. inr (ih q e)) h
+      go true r ih =
+          ⊎-elim (λ q. inl (ap (λ (u : Link). placeOf (s .held .micros) (u .lo)) q, ap (λ (u : Link). placeOf (s .held .micros) (u .hi)) q))
+          (λ q. inr (ih q e)) h
       go false r ih = ⊎-elim (λ q. absurd (true≢false (sym (same q) ∙ r))) (λ q. ih q e) h
 
   pairs : List (ℕ × ℕ)
-  pairs = joinsOf s (s .links)
+  pairs = joinsOf s (s .held .links)
 
   abbrev Pair : ℕ → ℕ → Type 0
   Pair = Joined (length (strongOnes s)) pairs
 
   strong-below : (i : ℕ) → strongAt s i ≡ true → i < length (strongOnes s)
-  strong-below i e = let m = test-there (isStrong s) (s .micros) i e in omega (arith, at-below (s .micros) i (m .0) (m .1), length-map (s .micros) (isStrong s))
+  strong-below i e =
+      let m = test-there (isStrong s) (s .held .micros) i e in
+      omega (arith, at-below (s .held .micros) i (m .0) (m .1), length-map (s .held .micros) (isStrong s))
 
   -- ---- a joined pair is a step between the numbers that stand there
   abbrev numbers : List DbMicro → List ℕ
   numbers ms = map (λ (m : DbMicro). m .id .0) ms
 
   idAt : ℕ → ℕ
-  idAt i = getD (numbers (s .micros)) i 0
+  idAt i = getD (numbers (s .held .micros)) i 0
 
   id-at : (ms : List DbMicro) (i : ℕ) (m : DbMicro) → At ms i m → getD (numbers ms) i 0 ≡ m .id .0
   id-at [] i m h = absurd (not-none h)
   id-at (n ∷ ms) zero m h = ap (λ (u : DbMicro). u .id .0) (at-one (n ∷ ms) 0 n m refl h)
   id-at (n ∷ ms) (suc i) m h = id-at ms i m h
 
-  strong-number : (a : MicroId) → strongAt s (placeOf (s .micros) a) ≡ true → StrongNumber s (a .0)
+  strong-number : (a : MicroId) → strongAt s (placeOf (s .held .micros) a) ≡ true → StrongNumber s (a .0)
   strong-number a e =
-      let m = test-there (isStrong s) (s .micros) (placeOf (s .micros) a) e in
-      record { micro = m .0; held = at-in (s .micros) (placeOf (s .micros) a) (m .0) (m .1); number = place-at (s .micros) a (m .0) (m .1); strong = m .2 }
+      let m = test-there (isStrong s) (s .held .micros) (placeOf (s .held .micros) a) e in
+      record {
+        micro = m .0;
+        held = at-in (s .held .micros) (placeOf (s .held .micros) a) (m .0) (m .1);
+        number =
+            place-at (s .held .micros) a (m .0) (m .1);
+        strong = m .2;
+      }
 
-  place-id : (a : MicroId) → strongAt s (placeOf (s .micros) a) ≡ true → idAt (placeOf (s .micros) a) ≡ a .0
+  place-id : (a : MicroId) → strongAt s (placeOf (s .held .micros) a) ≡ true → idAt (placeOf (s .held .micros) a) ≡ a .0
   unfolding idAt
   place-id a e =
-      let m = test-there (isStrong s) (s .micros) (placeOf (s .micros) a) e in
-      id-at (s .micros) (placeOf (s .micros) a) (m .0) (m .1) ∙ place-at (s .micros) a (m .0) (m .1)
+      let m = test-there (isStrong s) (s .held .micros) (placeOf (s .held .micros) a) e in
+      id-at (s .held .micros) (placeOf (s .held .micros) a) (m .0) (m .1) ∙ place-at (s .held .micros) a (m .0) (m .1)
 
   step-out : (i j : ℕ) → Pair i j → Step s (idAt i) (idAt j)
   unfolding pairs
   step-out i j h =
-      let k : JoinedBy (s .links) i j = joined-by (s .links) i j (h .2) in
-      let b = and-true (strongAt s (placeOf (s .micros) (k .link .lo))) (strongAt s (placeOf (s .micros) (k .link .hi))) (isDense s (k .link)) (k .does) in
+      let k : JoinedBy (s .held .links) i j = joined-by (s .held .links) i j (h .2) in
+      let b = and-true (strongAt s (placeOf (s .held .micros) (k .link .lo))) (strongAt s (placeOf (s .held .micros) (k .link .hi))) (isDense s (k .link))
+      (k .does) in
       let lo : idAt i ≡ k .link .lo .0 = ap idAt (k .lo) ∙ place-id (k .link .lo) (b .0) in
       let hi : idAt j ≡ k .link .hi .0 = ap idAt (k .hi) ∙ place-id (k .link .hi) (b .1) in
       record {
@@ -120,37 +133,40 @@ module _ (s : State) where
         to = subst (StrongNumber s) (sym hi) (strong-number (k .link .hi) (b .1));
       }
 
-  module _ (asc : Ascending Older (s .micros)) where
+  module _ (asc : Ascending Older (s .held .micros)) where
     -- ---- and a step is a joined pair of the places of its numbers
     abbrev place : ℕ → ℕ
-    place a = placeOf (s .micros) (numbered a)
+    place a = placeOf (s .held .micros) (numbered a)
 
     strong-place : (a : ℕ) → StrongNumber s a → strongAt s (place a) ≡ true
     strong-place a n =
-        let w = in-at (s .micros) (n .micro) (n .held) in
-        let e : place a ≡ w .0 = ap place (sym (n .number)) ∙ own-place (s .micros) asc (w .0) (n .micro) (w .1) in
-        ap (strongAt s) e ∙ there-test (isStrong s) (s .micros) (w .0) (n .micro) (w .1) ∙ n .strong
+        let w = in-at (s .held .micros) (n .micro) (n .held) in
+        let e : place a ≡ w .0 = ap place (sym (n .number)) ∙ own-place (s .held .micros) asc (w .0) (n .micro) (w .1) in
+        ap (strongAt s) e ∙ there-test (isStrong s) (s .held .micros) (w .0) (n .micro) (w .1) ∙ n .strong
 
     step-in : (a b : ℕ) → Step s a b → Pair (place a) (place b)
     unfolding pairs
     step-in a b t =
-        let lo : strongAt s (placeOf (s .micros) (t .link .lo)) ≡ true = ap (λ (c : ℕ). strongAt s (place c)) (t .lo) ∙ strong-place a (t .from) in
-        let hi : strongAt s (placeOf (s .micros) (t .link .hi)) ≡ true = ap (λ (c : ℕ). strongAt s (place c)) (t .hi) ∙ strong-place b (t .to) in
-        let j : Listed (joinsOf s (s .links)) (placeOf (s .micros) (t .link .lo)) (placeOf (s .micros) (t .link .hi)) =
-        by-joined (s .links) (t .link) (t .held)
-        (true-and (strongAt s (placeOf (s .micros) (t .link .lo))) (strongAt s (placeOf (s .micros) (t .link .hi))) (isDense s (t .link)) lo hi (t .dense)) in (
+        let lo : strongAt s (placeOf (s .held .micros) (t .link .lo)) ≡ true = ap (λ (c : ℕ). strongAt s (place c)) (t .lo) ∙ strong-place a (t .from) in
+        let hi : strongAt s (placeOf (s .held .micros) (t .link .hi)) ≡ true = ap (λ (c : ℕ). strongAt s (place c)) (t .hi) ∙ strong-place b (t .to) in
+        let j : Listed (joinsOf s (s .held .links)) (placeOf (s .held .micros) (t .link .lo)) (placeOf (s .held .micros) (t .link .hi)) =
+        by-joined (s .held .links) (t .link) (t .held)
+        (true-and (strongAt s (placeOf (s .held .micros) (t .link .lo))) (strongAt s (placeOf (s .held .micros) (t .link .hi))) (isDense s (t .link)) lo hi
+        (t .dense)) in (
           strong-below (place a) (strong-place a (t .from)),
           strong-below (place b) (strong-place b (t .to)),
-          subst (λ (c : ℕ). Listed (joinsOf s (s .links)) (place c) (place b)) (t .lo)
-              (subst (λ (c : ℕ). Listed (joinsOf s (s .links)) (place (t .link .lo .0)) (place c)) (t .hi) j),
+          subst (λ (c : ℕ). Listed (joinsOf s (s .held .links)) (place c) (place b)) (t .lo)
+              (subst (λ (c : ℕ). Listed (joinsOf s (s .held .links)) (place (t .link .lo .0)) (place c)) (t .hi) j),
         )
 
     -- a chain of places is a chain of creation numbers
-    chains : (i j : ℕ) (m n : DbMicro) → At (s .micros) i m → At (s .micros) j n → Chain Pair i j ↔ Chain (Step s) (m .id .0) (n .id .0)
+    chains : (i j : ℕ) (m n : DbMicro) → At (s .held .micros) i m → At (s .held .micros) j n → Chain Pair i j ↔ Chain (Step s) (m .id .0) (n .id .0)
     unfolding idAt
     chains i j m n h k = (
-      (λ c. subst (λ (a : ℕ). Chain (Step s) (m .id .0) a) (id-at (s .micros) j n k) (subst (λ (a : ℕ). Chain (Step s) a (idAt j)) (id-at (s .micros) i m h) (chain-map idAt step-out c))),
-      (λ c. subst (λ (a : ℕ). Chain Pair i a) (own-place (s .micros) asc j n k) (subst (λ (a : ℕ). Chain Pair a (place (n .id .0))) (own-place (s .micros) asc i m h) (chain-map place step-in c))),
+      (λ c. subst (λ (a : ℕ). Chain (Step s) (m .id .0) a) (id-at (s .held .micros) j n k)
+          (subst (λ (a : ℕ). Chain (Step s) a (idAt j)) (id-at (s .held .micros) i m h) (chain-map idAt step-out c))),
+      (λ c. subst (λ (a : ℕ). Chain Pair i a) (own-place (s .held .micros) asc j n k)
+          (subst (λ (a : ℕ). Chain Pair a (place (n .id .0))) (own-place (s .held .micros) asc i m h) (chain-map place step-in c))),
     )
 
     -- cluster changes labels alone, so a step before it is a step after it
@@ -166,23 +182,25 @@ module _ (s : State) where
         strong : {a : ℕ} → StrongNumber (clusterOf s) a → StrongNumber s a
         strong n = record { micro = n .micro; held = n .held; number = n .number; strong = n .strong }
 
-    module _ (few : length (s .micros) ≤ microsMost) where
+    module _ (few : length (s .held .micros) ≤ microsMost) where
       tell : LabelsTell (length (strongOnes s)) pairs (strongOnes s) (labelsOf s)
       unfolding labelsOf labelsBy pairs
-      tell = label.labels-tell (length (strongOnes s)) (omega (arith, few, length-map (s .micros) (isStrong s))) (joinsOf s (s .links)) (strongOnes s) refl
+      tell =
+          label.labels-tell (length (strongOnes s)) (omega (arith, few, length-map (s .held .micros) (isStrong s))) (joinsOf s (s .held .links))
+          (strongOnes s) refl
 
-      below : (i : ℕ) (m : DbMicro) → At (s .micros) i m → i < length (strongOnes s)
-      below i m h = omega (arith, at-below (s .micros) i m h, length-map (s .micros) (isStrong s))
+      below : (i : ℕ) (m : DbMicro) → At (s .held .micros) i m → i < length (strongOnes s)
+      below i m h = omega (arith, at-below (s .held .micros) i m h, length-map (s .held .micros) (isStrong s))
 
-      strong-is : (i : ℕ) (m : DbMicro) → At (s .micros) i m → strongAt s i ≡ isStrong s m
-      strong-is i m h = there-test (isStrong s) (s .micros) i m h
+      strong-is : (i : ℕ) (m : DbMicro) → At (s .held .micros) i m → strongAt s i ≡ isStrong s m
+      strong-is i m h = there-test (isStrong s) (s .held .micros) i m h
 
       label-is : (i : ℕ) (k : ℤ) → At (labelsOf s) i k → label.labelAt (labelsOf s) i ≡ k
       label-is i k h = at-getD (labelsOf s) i k (negsuc 0) h
 
       counted : (i : ℕ) → Counted (label.labelAt (labelsOf s) i)
       unfolding labelsOf labelsBy
-      counted i = labels-counted (strongOnes s) (rootsOf (length (strongOnes s)) (joinsOf s (s .links))) i
+      counted i = labels-counted (strongOnes s) (rootsOf (length (strongOnes s)) (joinsOf s (s .held .links))) i
 
       stands : (i : ℕ) (k : ℤ) → i < length (labelsOf s) → label.labelAt (labelsOf s) i ≡ k → At (labelsOf s) i k
       stands i k h e =
@@ -192,7 +210,7 @@ module _ (s : State) where
       pub labels-tell : LabelsTellFamilies (clusterOf s)
       labels-tell =
           record {
-            count = tell .count ∙ length-map (s .micros) (isStrong s);
+            count = tell .count ∙ length-map (s .held .micros) (isStrong s);
             weak = λ i m k h g. (
               (λ e. sym (strong-is i m h) ∙ tell .outside i (below i m h) .0 (label-is i k g ∙ e)),
               (λ e. sym (label-is i k g) ∙ tell .outside i (below i m h) .1 (strong-is i m h ∙ e)),

@@ -10,23 +10,26 @@ use lib.Dec.{eqb, ltb}
 use lib.ListN.{length, length-map, length-append}
 use lib.Ieee.{Float}
 use borrow.Author.Tests.{ltb-true, ltb-false, eqb-true, eqb-false, not-true}
+use Rattle.float.specs.Rounded.{_⊕_, one}
 use Rattle.lists.specs.Retain.{retain}
 use Rattle.lists.specs.Sizes.{retain-length}
-use Rattle.drift.specs.declared.Nearest.{Nearest}
 use Rattle.model.specs.declared.micro.MicroId.{MicroId}
 use Rattle.model.specs.declared.micro.DbMicro.{DbMicro}
 use Rattle.model.specs.declared.link.Link.{Link}
 use Rattle.model.specs.Limits.{microsMost, linksMost, clockMost}
-use Rattle.model.specs.Outcome.{Outcome}
 use Rattle.model.specs.Run.{acceptedIn}
-use Rattle.model.specs.DbState.{Settings, State, fresh}
-use Rattle.model.specs.DbInsert.{idOf, pairsOf, gains, absent, before, sameEnds, gainIn, hasRoom, gainOf, newborn, absorbed, microStays, neighboursOf, hasPlace, joined, placed, advanced, tickOf, insertOf}
+use Rattle.model.specs.DbState.{Settings, Holdings, State}
+use Rattle.model.specs.DbInsert.{idOf, pairsOf, gains, absent, before, sameEnds, gainIn, hasRoom, gainOf, newborn, absorbed, microStays, neighboursOf, joined}
+use Rattle.model.specs.DbInsert.{placed, nearestFor}
+use Rattle.model.specs.Dbstream.{dbstream, takenOf, hasPlace}
+use Rattle.model.specs.Stream.{taking}
+use Rattle.model.specs.StreamLaws.{tick-cases}
 use Rattle.claims.specs.Lists.{In, Each, Ascending}
 use Rattle.claims.specs.DbClaims.{Older, Before, Live, LinksHeld, FromFresh, Fits, gainUnbounded, after, told}
 use Rattle.claims.proofs.Places.{each-in}
 use Rattle.claims.proofs.Order.{each-more, each-retain, ascending-retain, retain-passes, each-map, ascending-map, in-map}
-use Rattle.claims.proofs.Runs.{run-stays}
-use Rattle.claims.proofs.DbCases.{placed-cases, tick-cases, insert-cases}
+use Rattle.claims.proofs.Runs.{always}
+use Rattle.claims.proofs.DbCases.{placed-cases}
 use Rattle.claims.proofs.DbFresh.{Held, GoodPair, Joining, a-gain, one-gain, joining, joined-ascends, from-fresh}
 
 -- numbers that ascend, all of them among others that ascend: no more of them
@@ -200,37 +203,36 @@ module _ (lambda t : Float) where
         ∙ ap (λ (r : List Link). foldl (gainUnbounded lambda t) r ps) (gain-room ls p g (e .0))
 
 -- ---- at most 64 micro-clusters
-abbrev Few : State → Type 0
-Few s = length (s .micros) ≤ microsMost
+abbrev Few : Holdings → Type 0
+Few h = length (h .micros) ≤ microsMost
 
-few-tick : (s : State) (d : Nearest) → Few s → Few (tickOf s d)
-few-tick s d h =
-    tick-cases Few s d (omega (arith, retain-length (microStays (s .settings .lambda) (s .floor) (advanced s d .t)) (s .micros))) h
-
-few-placed : (s : State) (x : List Float) → hasPlace s x ≡ true → Few s → Few (placed s x)
+few-placed : (s : State) (x : List Float) → hasPlace s x ≡ true → Few (s .held) → Few (placed s x)
 few-placed s x e h =
-    placed-cases Few s x (λ q. omega (arith, length-map (s .micros) (absorbed (s .settings .r) (s .settings .lambda) (s .t) x)))
+    placed-cases Few s x (λ q. omega (arith, length-map (s .held .micros) (absorbed (s .params .r) (s .params .lambda) (s .t) x)))
     (λ q.
-    let l : length (s .micros) < microsMost = ltb-true (length (s .micros)) microsMost (sym (ap (λ (b : Bool). b || ltb (length (s .micros)) microsMost) q) ∙ e) in
-    omega (arith, length-append (s .micros) (newborn (s .settings .dim) (record { 0 = s .next }) (s .t) x ∷ [])))
+    let l : length (s .held .micros) < microsMost =
+    ltb-true (length (s .held .micros)) microsMost (sym (ap (λ (b : Bool). b || ltb (length (s .held .micros)) microsMost) q) ∙ e) in
+    omega (arith, length-append (s .held .micros) (newborn (s .params .dim) (record { 0 = s .held .next }) (s .t) x ∷ [])))
 
-few-insert : (s : State) (x : List Float) → Few s → Few (insertOf s x .stream)
-few-insert s x h =
-    insert-cases (λ (r : Outcome State). Few (r .stream)) s x (λ a q. h) (λ l e. few-tick (placed s x) _ (few-placed s x e h))
+few-taken : (s : State) (x : List Float) → hasPlace s x ≡ true → Few (s .held) → Few (takenOf s x .held)
+few-taken s x e h =
+    let f : Few (placed s x) = few-placed s x e h in
+    tick-cases dbstream (taking s (placed s x)) (nearestFor s x) (λ (u : State). Few (u .held))
+    (omega (arith, f, retain-length (microStays (s .params .lambda) (s .params .floor) (s .t ⊕ one)) (placed s x .micros))) f
 
-pub at-most-64 : (p : Settings) (xs : List (List Float)) → length (after p xs .micros) ≤ microsMost
-at-most-64 p xs = run-stays insertOf Few few-insert xs (fresh p) (omega arith)
+pub at-most-64 : (p : Settings) (xs : List (List Float)) → length (after p xs .held .micros) ≤ microsMost
+at-most-64 p xs = always dbstream hasPlace (λ (n : ℕ) (s : State). Few (s .held)) (λ n s x c e. few-taken s x e) p (omega arith) xs
 
 pub fits : (p : Settings) (xs : List (List Float)) → Fits (after p xs)
 fits p xs =
     record {
       micros = few;
       pairs = pairs-are;
-      links = most (length (s .micros)) (length (s .links)) few pairs-are;
-      number = (let a : s .next ≤ n = f .nextLimit in let b : n ≤ clockMost = f .clock .limit in omega arith);
-      roomForAll = λ x. gains-room (s .settings .lambda) (s .t) (joined s x .micros) (joined-ascends s x (f .ascending))
-          (omega (arith, few, length-map (s .micros) (absorbed (s .settings .r) (s .settings .lambda) (s .t) x)))
-          (pairsOf (map idOf (neighboursOf s x))) (s .links) (join x .pairs) (join x .links);
+      links = most (length (s .held .micros)) (length (s .held .links)) few pairs-are;
+      number = (let a : s .held .next ≤ n = f .nextLimit in let b : n ≤ clockMost = f .clock .limit in omega arith);
+      roomForAll = λ x. gains-room (s .params .lambda) (s .t) (joined s x .micros) (joined-ascends s x (f .ascending))
+          (omega (arith, few, length-map (s .held .micros) (absorbed (s .params .r) (s .params .lambda) (s .t) x)))
+          (pairsOf (map idOf (neighboursOf s x))) (s .held .links) (join x .pairs) (join x .links);
     }
   where
     s : State
@@ -245,8 +247,8 @@ fits p xs =
     join : (x : List Float) → Joining s x
     join x = joining s x (f .ascending) (f .links)
 
-    few : length (s .micros) ≤ microsMost
+    few : length (s .held .micros) ≤ microsMost
     few = at-most-64 p xs
 
-    pairs-are : 2 * length (s .links) ≤ length (s .micros) * (length (s .micros) - 1)
-    pairs-are = as-pairs (length (s .micros)) (length (s .links)) (good-most (s .micros) (f .ascending) (s .links) (f .links))
+    pairs-are : 2 * length (s .held .links) ≤ length (s .held .micros) * (length (s .held .micros) - 1)
+    pairs-are = as-pairs (length (s .held .micros)) (length (s .held .links)) (good-most (s .held .micros) (f .ascending) (s .held .links) (f .links))

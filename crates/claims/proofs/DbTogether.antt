@@ -14,13 +14,13 @@ use Rattle.float.specs.Ordered.{le-trans-all}
 use Rattle.union_find.specs.ChainLaws.{chain-more}
 use Rattle.model.specs.declared.micro.DbMicro.{DbMicro}
 use Rattle.model.specs.Limits.{microsMost}
-use Rattle.model.specs.DbState.{Settings, State}
+use Rattle.model.specs.DbState.{Settings, Params, State, paramsOf}
 use Rattle.model.specs.DbInsert.{fadedWeight, fadedLink}
-use Rattle.model.specs.DbCluster.{clusterOf}
+use Rattle.model.specs.Dbstream.{dbstream, hasPlace, clusterOf}
 use Rattle.claims.specs.Lists.{At, Ascending}
 use Rattle.claims.specs.DbClaims.{Older, Strong, StrongNumber, Step, LabelsTellFamilies, Laxer, StayTogether, after}
 use Rattle.claims.proofs.Places.{at-below, at-there}
-use Rattle.claims.proofs.DbSettings.{stays-set}
+use Rattle.claims.proofs.Runs.{run-params}
 use Rattle.claims.proofs.DbFresh.{from-fresh}
 use Rattle.claims.proofs.DbRoom.{at-most-64}
 use Rattle.claims.proofs.DbLabels.{labels-tell}
@@ -31,13 +31,13 @@ reaches : (low high v : Float) → T (le low high) → le high v ≡ true → le
 reaches low high v h e = is-true (le low v) (le-trans-all low high v h (subst T (sym e) tt))
 
 module _ (alpha minWeight : Float) (labels : List ℤ) (s : State)
-    (lighter : T (le minWeight (s .settings .minWeight))) (looser : T (le (alpha ⊗ minWeight) (s .settings .alpha ⊗ s .settings .minWeight)))
-    (asc : Ascending Older (s .micros)) (few : length (s .micros) ≤ microsMost) where
+    (lighter : T (le minWeight (s .params .minWeight))) (looser : T (le (alpha ⊗ minWeight) (s .params .alpha ⊗ s .params .minWeight)))
+    (asc : Ascending Older (s .held .micros)) (few : length (s .held .micros) ≤ microsMost) where
   abbrev u : State
   u = clusterOf (twin alpha minWeight labels s)
 
   strong-stays : (m : DbMicro) → Strong s m → Strong u m
-  strong-stays m e = reaches minWeight (s .settings .minWeight) (fadedWeight (s .settings .lambda) (s .t) m) lighter e
+  strong-stays m e = reaches minWeight (s .params .minWeight) (fadedWeight (s .params .lambda) (s .t) m) lighter e
 
   number-stays : (a : ℕ) → StrongNumber (clusterOf s) a → StrongNumber u a
   number-stays a n = record { micro = n .micro; held = n .held; number = n .number; strong = strong-stays (n .micro) (n .strong) }
@@ -49,7 +49,7 @@ module _ (alpha minWeight : Float) (labels : List ℤ) (s : State)
         held = t .held;
         lo = t .lo;
         hi = t .hi;
-        dense = reaches (alpha ⊗ minWeight) (s .settings .alpha ⊗ s .settings .minWeight) (fadedLink (s .settings .lambda) (s .t) (t .link)) looser (t .dense);
+        dense = reaches (alpha ⊗ minWeight) (s .params .alpha ⊗ s .params .minWeight) (fadedLink (s .params .lambda) (s .t) (t .link)) looser (t .dense);
         from = number-stays a (t .from);
         to = number-stays b (t .to);
       }
@@ -73,14 +73,14 @@ module _ (alpha minWeight : Float) (labels : List ℤ) (s : State)
       two : LabelsTellFamilies u
       two = labels-tell (twin alpha minWeight labels s) asc few
 
-      below : (i : ℕ) (k : ℤ) → At (clusterOf s .labels) i k → i < length (s .micros)
+      below : (i : ℕ) (k : ℤ) → At (clusterOf s .labels) i k → i < length (s .held .micros)
       below i k h = subst (λ (c : ℕ). i < c) (one .count) (at-below (clusterOf s .labels) i k h)
 
-      hm : (m : DbMicro) × At (s .micros) i m
-      hm = at-there (s .micros) i (below i (w .label) (w .here))
+      hm : (m : DbMicro) × At (s .held .micros) i m
+      hm = at-there (s .held .micros) i (below i (w .label) (w .here))
 
-      hn : (n : DbMicro) × At (s .micros) j n
-      hn = at-there (s .micros) j (below j (w .label) (w .there))
+      hn : (n : DbMicro) × At (s .held .micros) j n
+      hn = at-there (s .held .micros) j (below j (w .label) (w .there))
 
       hk : (k : ℤ) × At (u .labels) i k
       hk = at-there (u .labels) i (subst (λ (c : ℕ). i < c) (sym (two .count)) (below i (w .label) (w .here)))
@@ -104,12 +104,12 @@ pub stay-together : (p q : Settings) → Laxer p q → (xs : List (List Float)) 
 stay-together p q laxer xs =
     subst (λ (v : State). StayTogether (clusterOf s) (clusterOf v)) (sym (twins p q laxer xs .stream))
     (twins-stay (q .alpha) (q .minWeight) (twins p q laxer xs .labels) s
-    (subst (λ (c : Settings). T (le (q .minWeight) (c .minWeight))) (sym same) (laxer .minWeight))
-    (subst (λ (c : Settings). T (le (q .alpha ⊗ q .minWeight) (c .alpha ⊗ c .minWeight))) (sym same) (laxer .density))
+    (subst (λ (c : Params). T (le (q .minWeight) (c .minWeight))) (sym same) (laxer .minWeight))
+    (subst (λ (c : Params). T (le (q .alpha ⊗ q .minWeight) (c .alpha ⊗ c .minWeight))) (sym same) (laxer .density))
     (from-fresh p xs .ascending) (at-most-64 p xs))
   where
     s : State
     s = after p xs
 
-    same : s .settings ≡ p
-    same = stays-set p xs .settings
+    same : s .params ≡ paramsOf p
+    same = run-params dbstream hasPlace p xs

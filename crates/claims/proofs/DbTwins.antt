@@ -3,20 +3,14 @@ use mathlib.Core.Path.{_≡_, refl, sym, ap, ap₂, _∙_, subst}
 use mathlib.Core.Bool.{Bool, true, false, cond}
 use mathlib.Core.List.{List, [], _∷_}
 use Prim.Native.Nat.{ℕ}
-use lib.Dec.{eqb}
 use lib.IntN.{ℤ}
-use lib.ListN.{length}
-use lib.Ieee.{Float, lt}
-use Rattle.drift.specs.declared.Nearest.{Nearest}
-use Rattle.model.specs.declared.answers.Insertion.{Insertion}
-use Rattle.model.specs.declared.answers.Insertion.the-variants.{Done, Shape, ClockAtLimit, NoPlace}
-use Rattle.model.specs.Limits.{clockLimit}
-use Rattle.model.specs.Fading.{isMultiple}
-use Rattle.model.specs.Questions.{firstNo}
-use Rattle.model.specs.Outcome.{Outcome, outcome}
+use lib.Ieee.{Float}
+use Rattle.model.specs.Answers.{isDone}
+use Rattle.model.specs.Outcome.{Outcome}
 use Rattle.model.specs.Run.{runOf, answersOf}
-use Rattle.model.specs.DbState.{Settings, State, fresh}
-use Rattle.model.specs.DbInsert.{isAbsorbed, joined, born, placed, cleanup, advanced, tickOf, takenOf, nearestFor, hasPlace, insertOf}
+use Rattle.model.specs.Stream.{insertBy}
+use Rattle.model.specs.DbState.{Settings, State}
+use Rattle.model.specs.Dbstream.{fresh, takenOf, insertOf}
 use Rattle.claims.specs.DbClaims.{Laxer, SameHoldings, after, told}
 
 module _ (alpha minWeight : Float) where
@@ -24,35 +18,20 @@ module _ (alpha minWeight : Float) where
   abbrev pub twin : List ℤ → State → State
   twin labels s =
       record {
-        settings = record { dim = s .settings .dim; r = s .settings .r; lambda = s .settings .lambda; alpha = alpha; minWeight = minWeight };
-        tGap = s .tGap;
-        floor = s .floor;
+        params = record {
+          dim = s .params .dim;
+          r = s .params .r;
+          lambda = s .params .lambda;
+          alpha = alpha;
+          minWeight = minWeight;
+          tGap = s .params .tGap;
+          floor = s .params .floor;
+        };
         t = s .t;
-        next = s .next;
-        micros = s .micros;
-        links = s .links;
+        held = s .held;
         labels = labels;
         drift = s .drift;
       }
-
-  twin-placed : (labels : List ℤ) (s : State) (x : List Float) → placed (twin labels s) x ≡ twin [] (placed s x)
-  twin-placed labels s x = go (isAbsorbed s x)
-    where
-      go : (b : Bool) → cond b (joined (twin labels s) x) (born (twin labels s) x) ≡ twin [] (cond b (joined s x) (born s x))
-      go true = refl
-      go false = refl
-
-  twin-tick : (labels : List ℤ) (s : State) (d : Nearest) → tickOf (twin labels s) d ≡ twin labels (tickOf s d)
-  unfolding tickOf
-  twin-tick labels s d = go (isMultiple (advanced s d .t) (s .tGap))
-    where
-      go : (b : Bool) → cond b (cleanup (advanced (twin labels s) d)) (advanced (twin labels s) d) ≡ twin labels (cond b (cleanup (advanced s d)) (advanced s d))
-      go true = refl
-      go false = refl
-
-  twin-taken : (labels : List ℤ) (s : State) (x : List Float) → takenOf (twin labels s) x ≡ twin [] (takenOf s x)
-  twin-taken labels s x =
-      ap (λ (u : State). tickOf u (nearestFor s x)) (twin-placed labels s x) ∙ twin-tick [] (placed s x) (nearestFor s x)
 
   -- the twin's insert is answered alike, and leaves a twin
   record Alike (one two : Outcome State) : Type 0 where
@@ -61,20 +40,12 @@ module _ (alpha minWeight : Float) where
     stream : two .stream ≡ twin labels (one .stream)
 
   twin-insert : (labels : List ℤ) (s : State) (x : List Float) → Alike (insertOf s x) (insertOf (twin labels s) x)
-  unfolding insertOf
-  twin-insert labels s x = go (eqb (length x) (s .settings .dim)) (lt (s .t) clockLimit) (hasPlace s x)
+  unfolding insertBy
+  twin-insert labels s x = record { labels = cond (isDone (insertOf s x .answer)) [] labels; answer = refl; stream = go (isDone (insertOf s x .answer)) }
     where
-      answered : (b c d : Bool) → Insertion
-      answered b c d = firstNo ((b, Shape (s .settings .dim) (length x)) ∷ (c, ClockAtLimit) ∷ (d, NoPlace) ∷ []) Done
-
-      refusal : (a : Insertion) → Alike (record { answer = a; stream = s }) (record { answer = a; stream = twin labels s })
-      refusal a = record { labels = labels; answer = refl; stream = refl }
-
-      go : (b c d : Bool) → Alike (outcome (answered b c d) s (takenOf s x)) (outcome (answered b c d) (twin labels s) (takenOf (twin labels s) x))
-      go false c d = refusal (Shape (s .settings .dim) (length x))
-      go true false d = refusal ClockAtLimit
-      go true true false = refusal NoPlace
-      go true true true = record { labels = []; answer = refl; stream = twin-taken labels s x }
+      go : (b : Bool) → cond b (takenOf (twin labels s) x) (twin labels s) ≡ twin (cond b [] labels) (cond b (takenOf s x) s)
+      go true = refl
+      go false = refl
 
   -- and so does the whole run
   pub record TwinRun (s u : State) (xs : List (List Float)) : Type 0 where
@@ -109,8 +80,8 @@ module _ (p q : Settings) (laxer : Laxer p q) where
       let e : after q xs ≡ twin (q .alpha) (q .minWeight) (twins xs .labels) (after p xs) = twins xs .stream in
       record {
         clock = sym (ap (λ (u : State). u .t) e);
-        next = sym (ap (λ (u : State). u .next) e);
-        micros = sym (ap (λ (u : State). u .micros) e);
-        links = sym (ap (λ (u : State). u .links) e);
+        next = sym (ap (λ (u : State). u .held .next) e);
+        micros = sym (ap (λ (u : State). u .held .micros) e);
+        links = sym (ap (λ (u : State). u .held .links) e);
         drift = sym (ap (λ (u : State). u .drift) e);
       }

@@ -5,29 +5,28 @@ use mathlib.Core.List.{List, [], _∷_}
 use native.Mathlib.Omega.{arith}
 use lib.ListN.{length-replicate}
 use lib.Ieee.{Float}
-use Rattle.float.specs.Rounded.{nought}
+use Rattle.float.specs.Rounded.{_⊕_, nought, one}
 use Rattle.feature.specs.Feature.{empty}
-use Rattle.drift.specs.declared.Nearest.{Nearest}
 use Rattle.model.specs.declared.micro.Micro.{Micro}
 use Rattle.model.specs.Limits.{clockMost}
 use Rattle.model.specs.Nearest.{Near}
-use Rattle.model.specs.Outcome.{Outcome}
-use Rattle.model.specs.Run.{oneIfDone, acceptedIn}
-use Rattle.model.specs.DenState.{Settings, State, fresh}
-use Rattle.model.specs.DenInsert.{absorbing, newborn, placed, potentialStays, outlierStays, advanced, tickOf, insertOf}
+use Rattle.model.specs.Run.{acceptedIn}
+use Rattle.model.specs.DenState.{Settings, Holdings, State}
+use Rattle.model.specs.DenInsert.{absorbing, newborn, placed, nearestFor, potentialStays, outlierStays}
+use Rattle.model.specs.Denstream.{denstream, hasPlace, takenOf}
+use Rattle.model.specs.Stream.{taking}
+use Rattle.model.specs.StreamLaws.{tick-cases}
 use Rattle.claims.specs.Lists.{Each}
 use Rattle.claims.specs.Clock.{Counts}
 use Rattle.claims.specs.Weighed.{Weighed}
-use Rattle.claims.specs.DenClaims.{FromFresh, Kept, Figures, after, told}
+use Rattle.claims.specs.DenClaims.{Kept, Figures, after, told}
 use Rattle.claims.proofs.Places.{at-in, each-in}
 use Rattle.claims.proofs.Order.{each-more, each-append, each-set, each-without, each-retain}
-use Rattle.claims.proofs.Cases.{none-done}
-use Rattle.claims.proofs.Runs.{run-keeps}
+use Rattle.claims.proofs.Runs.{always}
 use Rattle.claims.proofs.Means.{moved-length}
 use Rattle.claims.proofs.Weights.{later, gains-one, regains, above-0, zero-most, zero-least}
 use Rattle.claims.proofs.DenTrials.{Tried}
-use Rattle.claims.proofs.DenCases.{placed-cases, tick-cases, insert-cases}
-use Rattle.claims.proofs.DenFresh.{fresh-insert, is-fresh}
+use Rattle.claims.proofs.DenCases.{placed-cases}
 
 -- ---- one micro-cluster
 kept-later : (n dim : ℕ) (m : Micro) → n ≤ clockMost → Kept n dim m → Kept (n + 1) dim m
@@ -56,62 +55,53 @@ kept-newborn n dim t x c =
     }
 
 -- ---- a point taken
-module _ (n : ℕ) (s : State) (x : List Float) (f : FromFresh n s) (g : Figures n s) where
+abbrev Both : (n dim : ℕ) → Holdings → Type 0
+Both n dim h = Each (Kept n dim) (h .potential) × Each (Kept n dim) (h .outliers)
+
+module _ (n : ℕ) (s : State) (x : List Float) (c : Counts n (s .t)) (g : Both n (s .params .dim) (s .held)) where
   abbrev All : List Micro → Type 0
   All = Each (Kept (n + 1) (s .params .dim))
 
   all-later : (l : List Micro) → Each (Kept n (s .params .dim)) l → All l
-  all-later l e = each-more (λ (m : Micro) k. kept-later n (s .params .dim) m (f .clock .limit) k) l e
+  all-later l e = each-more (λ (m : Micro) k. kept-later n (s .params .dim) m (c .limit) k) l e
 
   grown : (l : List Micro) (b : Near Micro) → Each (Kept n (s .params .dim)) l → Tried s x l b → Kept (n + 1) (s .params .dim) (b .micro)
   grown l b e t =
       subst (Kept (n + 1) (s .params .dim)) (sym (t .grown))
-      (kept-absorbing n (s .params .dim) (s .params .lambda) (s .t) x (t .old) (f .clock) (each-in (Kept n (s .params .dim)) l (t .old) e (at-in l (b .place) (t .old) (t .at))))
+      (kept-absorbing n (s .params .dim) (s .params .lambda) (s .t) x (t .old) c
+      (each-in (Kept n (s .params .dim)) l (t .old) e (at-in l (b .place) (t .old) (t .at))))
 
-  figures-placed : Figures (n + 1) (placed s x)
-  figures-placed =
-      placed-cases (Figures (n + 1)) s x
-      (λ b t. record { potential = each-set (Kept (n + 1) (s .params .dim)) (s .potential) (b .place) (b .micro) (grown (s .potential) b (g .potential) t) potential; outliers = outliers })
-      (λ b t. record {
-        potential = each-append (Kept (n + 1) (s .params .dim)) (s .potential) (b .micro ∷ []) potential (grown (s .outliers) b (g .outliers) t, tt);
-        outliers = each-without (Kept (n + 1) (s .params .dim)) (s .outliers) (b .place) outliers;
-      })
-      (λ b t. record { potential = potential; outliers = each-set (Kept (n + 1) (s .params .dim)) (s .outliers) (b .place) (b .micro) (grown (s .outliers) b (g .outliers) t) outliers })
-      (λ e. record {
-        potential = potential;
-        outliers = each-append (Kept (n + 1) (s .params .dim)) (s .outliers) (newborn (s .params .dim) (s .t) x ∷ []) outliers (kept-newborn n (s .params .dim) (s .t) x (f .clock), tt);
-      })
+  both-placed : Both (n + 1) (s .params .dim) (placed s x)
+  both-placed =
+      placed-cases (Both (n + 1) (s .params .dim)) s x
+      (λ b t. (each-set (Kept (n + 1) (s .params .dim)) (s .held .potential) (b .place) (b .micro) (grown (s .held .potential) b (g .0) t) potential, outliers))
+      (λ b t. (
+        each-append (Kept (n + 1) (s .params .dim)) (s .held .potential) (b .micro ∷ []) potential (grown (s .held .outliers) b (g .1) t, tt),
+        each-without (Kept (n + 1) (s .params .dim)) (s .held .outliers) (b .place) outliers,
+      ))
+      (λ b t. (potential, each-set (Kept (n + 1) (s .params .dim)) (s .held .outliers) (b .place) (b .micro) (grown (s .held .outliers) b (g .1) t) outliers))
+      (λ e. (
+        potential,
+        each-append (Kept (n + 1) (s .params .dim)) (s .held .outliers) (newborn (s .params .dim) (s .t) x ∷ []) outliers
+            (kept-newborn n (s .params .dim) (s .t) x c, tt),
+      ))
     where
-      potential : All (s .potential)
-      potential = all-later (s .potential) (g .potential)
+      potential : All (s .held .potential)
+      potential = all-later (s .held .potential) (g .0)
 
-      outliers : All (s .outliers)
-      outliers = all-later (s .outliers) (g .outliers)
+      outliers : All (s .held .outliers)
+      outliers = all-later (s .held .outliers) (g .1)
 
-figures-tick : (n : ℕ) (s : State) (d : Nearest) → Figures n s → Figures n (tickOf s d)
-figures-tick n s d g =
-    tick-cases (Figures n) s d
-    (record {
-      potential = each-retain (Kept n (s .params .dim)) (potentialStays (s .params) (advanced s d .t)) (s .potential) (g .potential);
-      outliers = each-retain (Kept n (s .params .dim)) (outlierStays (s .params) (advanced s d .t)) (s .outliers) (g .outliers);
-    })
-    (record { potential = g .potential; outliers = g .outliers })
+  both-taken : Both (n + 1) (takenOf s x .params .dim) (takenOf s x .held)
+  both-taken =
+      tick-cases denstream (taking s (placed s x)) (nearestFor s x) (λ (u : State). Both (n + 1) (u .params .dim) (u .held)) (
+        each-retain (Kept (n + 1) (s .params .dim)) (potentialStays (s .params) (s .t ⊕ one)) (placed s x .potential) (both-placed .0),
+        each-retain (Kept (n + 1) (s .params .dim)) (outlierStays (s .params) (s .t ⊕ one)) (placed s x .outliers) (both-placed .1),
+      ) both-placed
 
 -- ---- the whole run
-record Both (n : ℕ) (s : State) : Type 0 where
-  fromFresh : FromFresh n s
-  figures : Figures n s
-
-both-insert : (n : ℕ) (s : State) (x : List Float) → Both n s → Both (n + oneIfDone (insertOf s x .answer)) (insertOf s x .stream)
-both-insert n s x b =
-    record {
-      fromFresh = fresh-insert n s x (b .fromFresh);
-      figures = insert-cases (λ (r : Outcome State). Figures (n + oneIfDone (r .answer)) (r .stream)) s x
-          (λ a h. subst (λ (k : ℕ). Figures k s) (omega (arith, none-done a h)) (b .figures))
-          (λ l e. figures-tick (n + 1) (placed s x) _ (figures-placed n s x (b .fromFresh) (b .figures)));
-    }
-
 pub figures : (p : Settings) (xs : List (List Float)) → Figures (acceptedIn (told p xs)) (after p xs)
 figures p xs =
-    subst (λ (k : ℕ). Figures k (after p xs)) (omega arith)
-    (run-keeps insertOf Both both-insert xs 0 (fresh p) (record { fromFresh = is-fresh p; figures = record { potential = tt; outliers = tt } }) .figures)
+    let b : Both (acceptedIn (told p xs)) (after p xs .params .dim) (after p xs .held) =
+    always denstream hasPlace (λ (n : ℕ) (s : State). Both n (s .params .dim) (s .held)) (λ n s x c e g. both-taken n s x c g) p (tt, tt) xs in
+    record { potential = b .0; outliers = b .1 }

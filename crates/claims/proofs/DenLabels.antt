@@ -24,7 +24,8 @@ use Rattle.model.specs.Limits.{microsMost}
 use Rattle.model.specs.Families.{labelsBy, countedBy}
 use Rattle.model.specs.DenState.{State}
 use Rattle.model.specs.DenInsert.{fadedWeight}
-use Rattle.model.specs.DenCluster.{joinsOf, fadedWeights, labelsOf, clusterOf}
+use Rattle.model.specs.DenCluster.{joinsOf, fadedWeights, labelsOf}
+use Rattle.model.specs.Denstream.{clusterOf}
 use Rattle.claims.specs.DenClaims.{OneGroup, Weighs, LabelsTellGroups}
 use Rattle.claims.proofs.Places.{at-there, at-getD, there-test}
 use Rattle.claims.proofs.Counts.{Counted, labels-counted}
@@ -36,15 +37,15 @@ summed-more f (taken {i = i} p s) = taken (f i .0 p) (summed-more f s)
 summed-more f (passed {i = i} p s) = passed (λ q. p (f i .1 q)) (summed-more f s)
 
 -- a stream whose labels are those of its potential ones
-module _ (s : State) (labelled : s .labels ≡ labelsOf s) (few : length (s .potential) ≤ microsMost) where
+module _ (s : State) (labelled : s .labels ≡ labelsOf s) (few : length (s .held .potential) ≤ microsMost) where
   abbrev ws : List Float
   ws = fadedWeights s
 
   abbrev n : ℕ
   n = length ws
 
-  n-is : n ≡ length (s .potential)
-  n-is = length-map (s .potential) (fadedWeight (s .params .lambda) (s .t))
+  n-is : n ≡ length (s .held .potential)
+  n-is = length-map (s .held .potential) (fadedWeight (s .params .lambda) (s .t))
 
   low : n ≤ 64
   low = omega (arith, n-is, few)
@@ -59,7 +60,8 @@ module _ (s : State) (labelled : s .labels ≡ labelsOf s) (few : length (s .pot
   chains : (i j : ℕ) → Chain (Joined n (joinsOf s)) i j ↔ OneGroup s i j
   chains i j = (
     (λ c. chain-more (λ a b p. listed-step s a b (p .2)) c),
-    (λ c. chain-more (λ a b t. let f : a < b = t .first in let l : b < length (s .potential) = t .held in (omega (arith, n-is), omega (arith, n-is), step-listed s a b t)) c),
+    (λ c. chain-more (λ a b t. let f : a < b = t .first in
+        let l : b < length (s .held .potential) = t .held in (omega (arith, n-is), omega (arith, n-is), step-listed s a b t)) c),
   )
 
   -- ---- the weight of a group is the sum at its root
@@ -131,7 +133,7 @@ module _ (s : State) (labelled : s .labels ≡ labelsOf s) (few : length (s .pot
         fromZero = λ i c m h e l. tell .fromZero i c m (inside i h) e l;
       }
     where
-      inside : (i : ℕ) → i < length (s .potential) → i < n
+      inside : (i : ℕ) → i < length (s .held .potential) → i < n
       inside i h = omega (arith, n-is)
 
       both :
@@ -140,6 +142,6 @@ module _ (s : State) (labelled : s .labels ≡ labelsOf s) (few : length (s .pot
       both i j true e h c = inr (e, sym h ∙ e, c)
       both i j false e h c = inl (e, sym h ∙ e)
 
-pub groups-told : (s : State) → length (s .potential) ≤ microsMost → LabelsTellGroups (clusterOf s)
+pub groups-told : (s : State) → length (s .held .potential) ≤ microsMost → LabelsTellGroups (clusterOf s)
 unfolding labelsOf
 groups-told s few = labels-tell (clusterOf s) refl few

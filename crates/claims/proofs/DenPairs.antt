@@ -109,9 +109,9 @@ pairs-from e i (m ∷ ms) (suc p) (suc q) f h t =
 
 pub listed-step : (s : State) (i j : ℕ) → Listed (joinsOf s) i j → Step s i j
 listed-step s i j h =
-    let w = pairs-to (s .params .eps2) 0 (s .potential) i j h in
+    let w = pairs-to (s .params .eps2) 0 (s .held .potential) i j h in
     let f : w .0 < w .1 = w .2 in
-    let l : w .1 < length (s .potential) = w .3 in
+    let l : w .1 < length (s .held .potential) = w .3 in
     let u : i ≡ w .0 = omega (arith, w .4) in
     let v : j ≡ w .1 = omega (arith, w .5) in
     record {
@@ -124,4 +124,4 @@ pub step-listed : (s : State) (i j : ℕ) → Step s i j → Listed (joinsOf s) 
 step-listed s i j h =
     let u : 0 + i ≡ i = omega arith in
     let v : 0 + j ≡ j = omega arith in
-    rw (u, v) at (pairs-from (s .params .eps2) 0 (s .potential) i j (h .first) (h .held) (h .near))
+    rw (u, v) at (pairs-from (s .params .eps2) 0 (s .held .potential) i j (h .first) (h .held) (h .near))

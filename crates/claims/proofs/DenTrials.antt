@@ -11,7 +11,7 @@ use Rattle.model.specs.declared.micro.Micro.{Micro}
 use Rattle.model.specs.Fading.{distanceTo}
 use Rattle.model.specs.Nearest.{Near, nearAt, nearer, nearestFrom, nearestOf}
 use Rattle.model.specs.DenState.{State}
-use Rattle.model.specs.DenInsert.{absorbing, stands, trial, trialIn}
+use Rattle.model.specs.DenInsert.{absorbing, stands, trialIn}
 use Rattle.claims.specs.Lists.{At}
 
 -- ---- the nearest stands at its place

@@ -1,13 +1,11 @@
 -- A stream's window has taken fewer values than inserts were accepted: the first one has no nearest distance.
 use Prim.Native.Nat.{ℕ, _+_, _≤_, _<_}
-use mathlib.Core.Path.{_≡_, ap, _∙_, subst}
-use mathlib.Core.Logic.{_⊎_, inl, ⊎-elim}
+use mathlib.Core.Path.{_≡_, refl, ap, _∙_}
+use mathlib.Core.Logic.{_⊎_, inl, inr, ⊎-elim}
 use mathlib.Core.Bool.{Bool}
 use mathlib.Core.List.{List}
 use native.Mathlib.Omega.{arith}
 use lib.Ieee.{Float}
-use lib.ListN.{length}
-use Rattle.adwin.specs.Settings.{limit}
 use Rattle.adwin.specs.Buckets.{Classed}
 use Rattle.adwin.specs.Window.{Window, Outcome, grown, shrunk, updateOf}
 use Rattle.adwin.specs.Cases.{update-cases}
@@ -15,12 +13,12 @@ use Rattle.adwin.specs.Laws.{not-refused}
 use Rattle.drift.specs.declared.Nearest.{Nearest}
 use Rattle.drift.specs.declared.Nearest.the-variants.{Nothing, Distance}
 use Rattle.drift.specs.Monitor.{Monitor, observeOf}
-use Rattle.drift.specs.History.{Seen}
-use Rattle.drift.specs.Laws.{Heard}
-use Rattle.model.specs.Questions.{insertionAsked}
-use Rattle.model.specs.Outcome as outcome
-use Rattle.model.specs.Run.{oneIfDone}
-use Rattle.claims.proofs.Cases.{asked-cases, none-done}
+use Rattle.model.specs.Limits.{clockMost}
+use Rattle.model.specs.Run.{acceptedIn}
+use Rattle.model.specs.Stream.{State, Kind, taking, fresh, takenOf}
+use Rattle.model.specs.StreamLaws.{tick-drift}
+use Rattle.claims.specs.Whole.{after, told}
+use Rattle.claims.proofs.Runs.{always, clock-counts, drift-heard}
 
 abbrev takenBy : Monitor → ℕ
 takenBy m = m .window .taken
@@ -38,28 +36,30 @@ one-seen m (Distance d2) t = one-value (m .window) _
 abbrev pub Early : (n : ℕ) → Monitor → (List Float → Nearest) → Type 0
 Early n m nearest = (takenBy m < n) ⊎ ((takenBy m ≡ 0) × ((x : List Float) → nearest x ≡ Nothing))
 
-module _ {S : Type 0} (drift : S → Monitor) (nearest : S → List Float → Nearest) (dim : ℕ) (t : Float) (place : Bool) (came taken : S) (x : List Float) where
-  abbrev result : outcome.Outcome S
-  result = outcome.outcome (insertionAsked dim (length x) t place) came taken
-
-  pub early-insert :
-      (n : ℕ) → drift taken ≡ observeOf (drift came) (nearest came x) t → Early n (drift came) (nearest came) →
-      Early (n + oneIfDone (result .answer)) (drift (result .stream)) (nearest (result .stream))
-  early-insert n e h =
-      asked-cases dim (length x) t place came taken (λ (r : outcome.Outcome S). Early (n + oneIfDone (r .answer)) (drift (r .stream)) (nearest (r .stream)))
-      (λ a q. subst (λ (k : ℕ). Early k (drift came) (nearest came)) (omega (arith, none-done a q)) h)
-      (λ c p. inl (⊎-elim seen unseen h))
+module _ {S P H : Type 0} (k : Kind S P H) (place : State P H → List Float → Bool) where
+  one-taken : (n : ℕ) (s : State P H) (x : List Float) → Early n (s .drift) (k .nearestFor s) → takenBy (takenOf k s x .drift) < n + 1
+  one-taken n s x = ⊎-elim seen-more unseen
     where
-      seen : takenBy (drift came) < n → takenBy (drift taken) < n + 1
-      seen f = omega (arith, ap takenBy e, one-seen (drift came) (nearest came x) t)
+      e : takenOf k s x .drift ≡ observeOf (s .drift) (k .nearestFor s x) (s .t)
+      e = tick-drift k (taking s (k .placed s x)) (k .nearestFor s x)
 
-      unseen : (takenBy (drift came) ≡ 0) × ((y : List Float) → nearest came y ≡ Nothing) → takenBy (drift taken) < n + 1
+      seen-more : takenBy (s .drift) < n → takenBy (takenOf k s x .drift) < n + 1
+      seen-more f = omega (arith, ap takenBy e, one-seen (s .drift) (k .nearestFor s x) (s .t))
+
+      unseen : (takenBy (s .drift) ≡ 0) × ((y : List Float) → k .nearestFor s y ≡ Nothing) → takenBy (takenOf k s x .drift) < n + 1
       unseen f =
-          let q : takenBy (drift taken) ≡ takenBy (drift came) = ap takenBy (e ∙ ap (λ (d : Nearest). observeOf (drift came) d t) (f .1 x)) in
+          let q : takenBy (takenOf k s x .drift) ≡ takenBy (s .drift) = ap takenBy (e ∙ ap (λ (d : Nearest). observeOf (s .drift) d (s .t)) (f .1 x)) in
           omega (arith, f .0)
 
--- so its window refuses no value
-pub window-takes :
-    (n : ℕ) (m : Monitor) (nearest : List Float → Nearest) (radius : Float) (l : List Seen) → n ≤ limit → Early n m nearest → Heard radius l m → (v : Float) →
-    updateOf (m .window) v .refusal ≡ 0
-window-takes n m nearest radius l h e heard v = not-refused (m .window) v (⊎-elim (λ f. omega arith) (λ f. omega (arith, f .0)) e) (heard .told .neverFull)
+  -- of a stream that has nothing near where it is fresh
+  module _ (none : (p : S) (x : List Float) → k .nearestFor (fresh k p) x ≡ Nothing) (p : S) (xs : List (List Float)) where
+    early-told : Early (acceptedIn (told k place p xs)) (after k place p xs .drift) (k .nearestFor (after k place p xs))
+    early-told =
+        always k place (λ (n : ℕ) (s : State P H). Early n (s .drift) (k .nearestFor s)) (λ n s x c e h. inl (one-taken n s x h)) p (inr (refl, none p)) xs
+
+    -- so its window refuses no value
+    pub window-takes : (v : Float) → updateOf (after k place p xs .drift .window) v .refusal ≡ 0
+    window-takes v =
+        let h : acceptedIn (told k place p xs) ≤ clockMost = clock-counts k place p xs .limit in
+        not-refused (after k place p xs .drift .window) v (⊎-elim (λ f. omega arith) (λ f. omega (arith, f .0)) early-told)
+        (drift-heard k place p xs .told .neverFull)

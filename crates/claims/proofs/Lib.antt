@@ -1,24 +1,21 @@
 -- The proofs of demand 3's claims; the theorem is in Theorem. First what holds of any stream, then DBSTREAM, then DenStream.
 pub mod Order
 pub mod Places
-pub mod Cases
-pub mod Runs
 pub mod Counts
-pub mod Early
 pub mod Clocks
+pub mod Runs
+pub mod Early
 pub mod Periods
 pub mod Means
 pub mod Weight
 pub mod Weights
 pub mod DbPlaces
 pub mod DbCases
-pub mod DbSettings
 pub mod DbGains
 pub mod DbFresh
 pub mod DbNumbers
 pub mod DbRoom
 pub mod DbFigures
-pub mod DbDrift
 pub mod DbLabels
 pub mod DbTwins
 pub mod DbTogether

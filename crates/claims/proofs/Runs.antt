@@ -1,73 +1,108 @@
--- What holds after every insert of a list, of any stream.
+-- What holds after every insert of a list, of a stream of any kind: its clock, its drift monitor, and what each point taken keeps.
 use Prim.Native.Nat.{ℕ, _+_}
 use mathlib.Core.Path.{_≡_, refl, sym, ap, _∙_, subst}
-use mathlib.Core.Logic.{_≢_}
-use mathlib.Core.Bool.{Bool}
+use mathlib.Core.Bool.{Bool, true, false, cond}
 use mathlib.Core.List.{List, [], _∷_, _++_}
 use native.Mathlib.Omega.{arith}
 use lib.Ieee.{Float}
-use Rattle.float.specs.Rounded.{one, whole}
-use Rattle.drift.specs.declared.Nearest.{Nearest}
-use Rattle.drift.specs.Monitor.{Monitor, observeOf}
+use Rattle.float.specs.Rounded.{whole}
+use Rattle.drift.specs.Monitor.{newOf, observeOf}
 use Rattle.drift.specs.History.{Seen, watchOf}
+use Rattle.drift.specs.Laws.{Heard, heard-from-history}
+use Rattle.model.specs.declared.answers.Opening.{Opening}
 use Rattle.model.specs.declared.answers.Insertion.{Insertion}
-use Rattle.model.specs.declared.answers.Insertion.the-variants.{Done, Shape, ClockAtLimit, NoPlace}
-use Rattle.model.specs.Questions.{insertionAsked}
-use Rattle.model.specs.Outcome.{Outcome, outcome}
+use Rattle.model.specs.Answers.{isDone}
+use Rattle.model.specs.Outcome.{Outcome, opened}
 use Rattle.model.specs.Run.{runOf, answersOf, oneIfDone, acceptedIn}
+use Rattle.model.specs.Stream.{State, Kind, taking, fresh, openOf, tickOf, takenOf, insertBy}
+use Rattle.model.specs.StreamLaws.{tick-params, insert-cases}
+use Rattle.claims.specs.Clock.{Counts}
 use Rattle.claims.specs.History.{seenIf, seenFrom}
-use Rattle.claims.proofs.Cases.{asked-cases}
+use Rattle.claims.specs.Whole.{Opens, after, told, seen}
+use Rattle.claims.proofs.Clocks.{one-tick, starts}
 
-module _ {S : Type 0} (insert : S → List Float → Outcome S) where
-  pub run-append : (xs ys : List (List Float)) (s : S) → runOf insert s (xs ++ ys) ≡ runOf insert (runOf insert s xs) ys
-  unfolding runOf
-  run-append [] ys s = refl
-  run-append (x ∷ xs) ys s = run-append xs ys (insert s x .stream)
+pub run-append :
+    {S : Type 0} (insert : S → List Float → Outcome S) (xs ys : List (List Float)) (s : S) → runOf insert s (xs ++ ys) ≡ runOf insert (runOf insert s xs) ys
+unfolding runOf
+run-append insert [] ys s = refl
+run-append insert (x ∷ xs) ys s = run-append insert xs ys (insert s x .stream)
 
-  -- n is how many were accepted before
-  module _ (I : ℕ → S → Type 0) (step : (n : ℕ) (s : S) (x : List Float) → I n s → I (n + oneIfDone (insert s x .answer)) (insert s x .stream)) where
-    pub run-keeps : (xs : List (List Float)) (n : ℕ) (s : S) → I n s → I (n + acceptedIn (answersOf insert s xs)) (runOf insert s xs)
+-- a refusal is not counted
+uncounted : (a : Insertion) → isDone a ≡ false → oneIfDone a ≡ 0
+uncounted a h = ap (λ (b : Bool). cond b 1 0) h
+
+-- by any question whether there is a place for a point
+module _ {S P H : Type 0} (k : Kind S P H) (place : State P H → List Float → Bool) where
+  -- ---- the clock counts
+  clock-insert :
+      (n : ℕ) (s : State P H) (x : List Float) → Counts n (s .t) → Counts (n + oneIfDone (insertBy k place s x .answer)) (insertBy k place s x .stream .t)
+  unfolding tickOf
+  clock-insert n s x c =
+      insert-cases k place s x (λ (r : Outcome (State P H)). Counts (n + oneIfDone (r .answer)) (r .stream .t))
+      (λ a h. subst (λ (j : ℕ). Counts j (s .t)) (omega (arith, uncounted a h)) c) (λ l e. one-tick n (s .t) c l)
+
+  -- ---- what each point taken keeps, after n accepted inserts
+  module _ (I : ℕ → State P H → Type 0)
+      (keeps : (n : ℕ) (s : State P H) (x : List Float) → Counts n (s .t) → place s x ≡ true → I n s → I (n + 1) (takenOf k s x)) where
+    one-keeps :
+        (n : ℕ) (s : State P H) (x : List Float) → Counts n (s .t) → I n s → I (n + oneIfDone (insertBy k place s x .answer)) (insertBy k place s x .stream)
+    one-keeps n s x c i =
+        insert-cases k place s x (λ (r : Outcome (State P H)). I (n + oneIfDone (r .answer)) (r .stream))
+        (λ a h. subst (λ (j : ℕ). I j s) (omega (arith, uncounted a h)) i) (λ l e. keeps n s x c e i)
+
+    pub run-keeps :
+        (xs : List (List Float)) (n : ℕ) (s : State P H) → Counts n (s .t) → I n s →
+        let m = n + acceptedIn (answersOf (insertBy k place) s xs) in Counts m (runOf (insertBy k place) s xs .t) × I m (runOf (insertBy k place) s xs)
     unfolding runOf answersOf
-    run-keeps [] n s i = subst (λ (k : ℕ). I k s) (omega arith) i
-    run-keeps (x ∷ xs) n s i =
-        let a : ℕ = oneIfDone (insert s x .answer) in
-        let k : ℕ = acceptedIn (answersOf insert (insert s x .stream) xs) in
-        subst (λ (m : ℕ). I m (runOf insert (insert s x .stream) xs)) (let e : (n + a) + k ≡ n + (a + k) = omega arith in e)
-        (run-keeps xs (n + a) (insert s x .stream) (step n s x i))
+    run-keeps [] n s c i = let e : n ≡ n + 0 = omega arith in (subst (λ (j : ℕ). Counts j (s .t)) e c, subst (λ (j : ℕ). I j s) e i)
+    run-keeps (x ∷ xs) n s c i =
+        let a : ℕ = oneIfDone (insertBy k place s x .answer) in
+        let j : ℕ = acceptedIn (answersOf (insertBy k place) (insertBy k place s x .stream) xs) in
+        let u : State P H = runOf (insertBy k place) (insertBy k place s x .stream) xs in
+        let e : (n + a) + j ≡ n + (a + j) = omega arith in
+        subst (λ (m : ℕ). Counts m (u .t) × I m u) e (run-keeps xs (n + a) (insertBy k place s x .stream) (clock-insert n s x c) (one-keeps n s x c i))
 
-    -- the drift monitor, if each insert hands it on as it is told
-    pub run-watches :
-        (drift : S → Monitor) (nearest : S → List Float → Nearest) →
-        ((n : ℕ) (s : S) (x : List Float) → I n s → (l : List Seen) → watchOf (drift (insert s x .stream)) l ≡ watchOf (drift s) (seenIf (insert s x .answer) (record { nearest = nearest s x; tick = whole n }) l)) →
-        (xs : List (List Float)) (n : ℕ) (s : S) → I n s → drift (runOf insert s xs) ≡ watchOf (drift s) (seenFrom insert nearest n s xs)
-    unfolding runOf seenFrom watchOf
-    run-watches drift nearest one-more [] n s i = refl
-    run-watches drift nearest one-more (x ∷ xs) n s i =
-        run-watches drift nearest one-more xs (n + oneIfDone (insert s x .answer)) (insert s x .stream) (step n s x i)
-        ∙ one-more n s x i (seenFrom insert nearest (n + oneIfDone (insert s x .answer)) (insert s x .stream) xs)
+    pub always : (p : S) → I 0 (fresh k p) → (xs : List (List Float)) → I (acceptedIn (told k place p xs)) (after k place p xs)
+    always p i xs = subst (λ (j : ℕ). I j (after k place p xs)) (omega arith) (run-keeps xs 0 (fresh k p) starts i .1)
 
-  -- and what does not ask how many were accepted
-  pub run-stays : (P : S → Type 0) → ((s : S) (x : List Float) → P s → P (insert s x .stream)) → (xs : List (List Float)) (s : S) → P s → P (runOf insert s xs)
-  unfolding runOf
-  run-stays P step [] s p = p
-  run-stays P step (x ∷ xs) s p = run-stays P step xs (insert s x .stream) (step s x p)
+  pub clock-counts : (p : S) (xs : List (List Float)) → Counts (acceptedIn (told k place p xs)) (after k place p xs .t)
+  clock-counts p xs =
+      subst (λ (j : ℕ). Counts j (after k place p xs .t)) (omega arith) (run-keeps (λ n s. Unit {0}) (λ n s x c e i. tt) xs 0 (fresh k p) starts tt .0)
 
--- a refused insert is not observed
-unseen : (a : Insertion) → a ≢ Done → (o : Seen) (l : List Seen) → seenIf a o l ≡ l
-unseen Done h o l = absurd (h refl)
-unseen (Shape expected got) h o l = refl
-unseen ClockAtLimit h o l = refl
-unseen NoPlace h o l = refl
+  -- ---- no insert changes the settings
+  pub run-params : (p : S) (xs : List (List Float)) → after k place p xs .params ≡ k .paramsOf p
+  run-params p xs =
+      always (λ (n : ℕ) (s : State P H). s .params ≡ k .paramsOf p) (λ n s x c e i. tick-params k (taking s (k .placed s x)) (k .nearestFor s x) ∙ i)
+      p refl xs
 
--- one insert of a stream with the questions of both streams
-module _ {S : Type 0} (drift : S → Monitor) (dim got : ℕ) (t : Float) (place : Bool) (came taken : S) where
-  pub one-watched :
-      (n : ℕ) → t ≡ whole n → (d : Nearest) → drift taken ≡ observeOf (drift came) d t → (l : List Seen) →
-      watchOf (drift (outcome (insertionAsked dim got t place) came taken .stream)) l
-      ≡ watchOf (drift came) (seenIf (outcome (insertionAsked dim got t place) came taken .answer) (record { nearest = d; tick = whole n }) l)
-  unfolding watchOf
-  one-watched n e d h l =
-      asked-cases dim got t place came taken
-      (λ (r : Outcome S). watchOf (drift (r .stream)) l ≡ watchOf (drift came) (seenIf (r .answer) (record { nearest = d; tick = whole n }) l))
-      (λ a q. ap (watchOf (drift came)) (sym (unseen a q (record { nearest = d; tick = whole n }) l)))
-      (λ c p. ap (λ (m : Monitor). watchOf m l) (h ∙ ap (observeOf (drift came) d) e))
+  -- ---- the drift monitor is the fresh one after the observations of the run
+  watched :
+      (n : ℕ) (s : State P H) (x : List Float) → Counts n (s .t) → (l : List Seen) →
+      watchOf (insertBy k place s x .stream .drift) l
+      ≡ watchOf (s .drift) (seenIf (insertBy k place s x .answer) (record { nearest = k .nearestFor s x; tick = whole n }) l)
+  unfolding watchOf tickOf
+  watched n s x c l =
+      insert-cases k place s x
+      (λ (r : Outcome (State P H)). watchOf (r .stream .drift) l
+      ≡ watchOf (s .drift) (seenIf (r .answer) (record { nearest = k .nearestFor s x; tick = whole n }) l))
+      (λ a h. ap (λ (b : Bool). watchOf (s .drift) (cond b (record { nearest = k .nearestFor s x; tick = whole n } ∷ l) l)) (sym h))
+      (λ q e. ap (λ (t : Float). watchOf (observeOf (s .drift) (k .nearestFor s x) t) l) (c .exact))
+
+  watches :
+      (xs : List (List Float)) (n : ℕ) (s : State P H) → Counts n (s .t) →
+      runOf (insertBy k place) s xs .drift ≡ watchOf (s .drift) (seenFrom (insertBy k place) (k .nearestFor) n s xs)
+  unfolding runOf seenFrom watchOf
+  watches [] n s c = refl
+  watches (x ∷ xs) n s c =
+      watches xs (n + oneIfDone (insertBy k place s x .answer)) (insertBy k place s x .stream) (clock-insert n s x c)
+      ∙ watched n s x c (seenFrom (insertBy k place) (k .nearestFor) (n + oneIfDone (insertBy k place s x .answer)) (insertBy k place s x .stream) xs)
+
+  pub drift-told : (p : S) (xs : List (List Float)) → after k place p xs .drift ≡ watchOf (newOf (k .radius p)) (seen k place p xs)
+  drift-told p xs = watches xs 0 (fresh k p) starts
+
+  pub drift-heard : (p : S) (xs : List (List Float)) → Heard (k .radius p) (seen k place p xs) (after k place p xs .drift)
+  drift-heard p xs = subst (Heard (k .radius p) (seen k place p xs)) (sym (drift-told p xs)) (heard-from-history (k .radius p) (seen k place p xs))
+
+-- ---- "Fresh means as an accepted opening gives it"
+pub opened-fresh : {S P H : Type 0} (k : Kind S P H) (p : S) → Opens k p → openOf k p .stream ≡ fresh k p
+opened-fresh k p e = ap (λ (a : Opening). opened a (fresh k p) (fresh k (k .zeros)) .stream) e

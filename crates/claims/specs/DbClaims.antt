@@ -7,31 +7,24 @@ use mathlib.Core.List.{List, _++_, map, foldl}
 use lib.Dec.{T}
 use lib.IntN.{ℤ, pos, negsuc}
 use lib.ListN.{length}
-use lib.Ieee.{Float, binary64, le, eq, rem}
-use Rattle.float.specs.Rounded.{_⊗_, nought, one, whole}
+use lib.Ieee.{Float, le}
+use Rattle.float.specs.Rounded.{_⊗_, one, whole}
 use Rattle.union_find.specs.Pairs.{Chain}
-use Rattle.adwin.specs.Window.{updateOf}
-use Rattle.drift.specs.Monitor.{newOf}
-use Rattle.drift.specs.History.{Seen, watchOf}
-use Rattle.drift.specs.Laws.{Heard}
 use Rattle.model.specs.declared.micro.MicroId.{MicroId}
 use Rattle.model.specs.declared.micro.DbMicro.{DbMicro}
 use Rattle.model.specs.declared.link.Link.{Link}
-use Rattle.model.specs.declared.answers.Opening.the-variants.{Open}
 use Rattle.model.specs.declared.answers.Insertion.{Insertion}
-use Rattle.model.specs.declared.answers.Insertion.the-variants.{Done}
 use Rattle.model.specs.Limits.{microsMost, linksMost}
-use Rattle.model.specs.Run.{runOf, answersOf, acceptedIn}
-use Rattle.model.specs.Fading.{isMultiple}
-use Rattle.model.specs.Periods.{tGapOf, floorOf}
+use Rattle.model.specs.Run.{acceptedIn}
 use Rattle.model.specs.PeriodLaws.{Period}
-use Rattle.model.specs.DbState.{Settings, State, asked, fresh, openOf}
-use Rattle.model.specs.DbInsert.{idOf, pairsOf, gainIn, absent, neighboursOf, joined, nearestFor, insertOf}
-use Rattle.model.specs.DbCluster.{isStrong, isDense, clusterOf}
+use Rattle.model.specs.DbState.{Settings, State, paramsOf}
+use Rattle.model.specs.DbInsert.{idOf, pairsOf, gainIn, absent, neighboursOf, joined}
+use Rattle.model.specs.DbCluster.{isStrong, isDense}
+use Rattle.model.specs.Dbstream.{dbstream, hasPlace, clusterOf}
 use Rattle.claims.specs.Lists.{At, In, Each, Ascending}
 use Rattle.claims.specs.Clock.{Counts}
 use Rattle.claims.specs.Weighed.{Weighed}
-use Rattle.claims.specs.History.{seenFrom}
+use Rattle.claims.specs.Whole as whole
 
 -- ---- labels
 abbrev pub Strong : State → DbMicro → Type 0
@@ -44,14 +37,14 @@ Weak s m = isStrong s m ≡ false
 -- a is the creation number of a strong micro-cluster that is held
 pub record StrongNumber (s : State) (a : ℕ) : Type 0 where
   pub micro : DbMicro
-  pub held : In micro (s .micros)
+  pub held : In micro (s .held .micros)
   pub number : micro .id .0 ≡ a
   pub strong : Strong s micro
 
 -- one step of a chain, which may take it either way round: a held link between two strong ones, of faded density ≥ alpha × min_weight
 pub record Step (s : State) (a b : ℕ) : Type 0 where
   pub link : Link
-  pub held : In link (s .links)
+  pub held : In link (s .held .links)
   pub lo : link .lo .0 ≡ a
   pub hi : link .hi .0 ≡ b
   pub dense : isDense s link ≡ true
@@ -65,12 +58,12 @@ OneFamily s m n = (Weak s m × Weak s n) ⊎ (Strong s m × Strong s n × Chain 
 -- of a clustered stream
 pub record LabelsTellFamilies (s : State) : Type 0 where
   -- a label for each micro-cluster
-  pub count : length (s .labels) ≡ length (s .micros)
+  pub count : length (s .labels) ≡ length (s .held .micros)
   -- −1 is the label of the weak, and of no other
-  pub weak : (i : ℕ) (m : DbMicro) (k : ℤ) → At (s .micros) i m → At (s .labels) i k → (k ≡ negsuc 0) ↔ Weak s m
+  pub weak : (i : ℕ) (m : DbMicro) (k : ℤ) → At (s .held .micros) i m → At (s .labels) i k → (k ≡ negsuc 0) ↔ Weak s m
   -- two labels are equal exactly for one family
   pub families :
-      (i j : ℕ) (m n : DbMicro) (k l : ℤ) → At (s .micros) i m → At (s .micros) j n → At (s .labels) i k → At (s .labels) j l →
+      (i j : ℕ) (m n : DbMicro) (k l : ℤ) → At (s .held .micros) i m → At (s .held .micros) j n → At (s .labels) i k → At (s .labels) j l →
       (k ≡ l) ↔ OneFamily s m n
   -- "Labels count from 0 by first member, −1 otherwise.": a label is −1 or a count, and each smaller count stands before it
   pub counts : (i : ℕ) (k : ℤ) → At (s .labels) i k → (k ≡ negsuc 0) ⊎ ((c : ℕ) × (k ≡ pos c))
@@ -88,9 +81,9 @@ pub record Laxer (p q : Settings) : Type 0 where
 -- "every kept figure of micro-clusters, links and drift report is equal"
 pub record SameHoldings (s u : State) : Type 0 where
   pub clock : s .t ≡ u .t
-  pub next : s .next ≡ u .next
-  pub micros : s .micros ≡ u .micros
-  pub links : s .links ≡ u .links
+  pub next : s .held .next ≡ u .held .next
+  pub micros : s .held .micros ≡ u .held .micros
+  pub links : s .held .links ≡ u .held .links
   pub drift : s .drift ≡ u .drift
 
 -- the places i and j have one label, other than −1
@@ -126,16 +119,16 @@ pub record LinksHeld (ms : List DbMicro) (ls : List Link) : Type 0 where
 pub record FromFresh (n : ℕ) (s : State) : Type 0 where
   pub clock : Counts n (s .t)
   -- creation numbers ascend and are below the next
-  pub ascending : Ascending Older (s .micros)
-  pub belowNext : Each (λ (m : DbMicro). m .id .0 < s .next) (s .micros)
-  pub nextLimit : s .next ≤ n
-  pub links : LinksHeld (s .micros) (s .links)
+  pub ascending : Ascending Older (s .held .micros)
+  pub belowNext : Each (λ (m : DbMicro). m .id .0 < s .held .next) (s .held .micros)
+  pub nextLimit : s .held .next ≤ n
+  pub links : LinksHeld (s .held .micros) (s .held .links)
 
 -- what is kept of each micro-cluster and link
 pub record Figures (n : ℕ) (s : State) : Type 0 where
-  pub means : Each (λ (m : DbMicro). length (m .cf .mean) ≡ s .settings .dim) (s .micros)
-  pub weights : Each (λ (m : DbMicro). Weighed n (m .cf .w) (m .last)) (s .micros)
-  pub densities : Each (λ (l : Link). Weighed n (l .value) (l .last)) (s .links)
+  pub means : Each (λ (m : DbMicro). length (m .cf .mean) ≡ s .params .dim) (s .held .micros)
+  pub weights : Each (λ (m : DbMicro). Weighed n (m .cf .w) (m .last)) (s .held .micros)
+  pub densities : Each (λ (l : Link). Weighed n (l .value) (l .last)) (s .held .links)
 
 -- a gain in a list that always has room
 abbrev pub gainUnbounded : (lambda t : Float) → List Link → MicroId × MicroId → List Link
@@ -143,57 +136,41 @@ gainUnbounded lambda t ls p = gainIn lambda t true (absent (p .0) (p .1) t) ls
 
 -- no more than there is room for, and none of the definitions' cuts is met
 pub record Fits (s : State) : Type 0 where
-  pub micros : length (s .micros) ≤ microsMost
+  pub micros : length (s .held .micros) ≤ microsMost
   -- no more links than pairs
-  pub pairs : 2 * length (s .links) ≤ length (s .micros) * (length (s .micros) - 1)
-  pub links : length (s .links) ≤ linksMost
+  pub pairs : 2 * length (s .held .links) ≤ length (s .held .micros) * (length (s .held .micros) - 1)
+  pub links : length (s .held .links) ≤ linksMost
   -- a creation number never wraps
-  pub number : (s .next + 1) % 2 ^ 64 ≡ s .next + 1
+  pub number : (s .held .next + 1) % 2 ^ 64 ≡ s .held .next + 1
   -- and no link is turned away: an insert's gains are those in a list without bound
   pub roomForAll :
       (x : List Float) →
-      joined s x .links ≡ foldl (gainUnbounded (s .settings .lambda) (s .t)) (s .links) (pairsOf (map idOf (neighboursOf s x)))
+      joined s x .links ≡ foldl (gainUnbounded (s .params .lambda) (s .t)) (s .held .links) (pairsOf (map idOf (neighboursOf s x)))
 
 -- ---- demand 3
 abbrev pub Opens : Settings → Type 0
-Opens p = asked p ≡ Open
+Opens = whole.Opens dbstream
 
--- the stream after the opening and every insert of the list, "refused or not"
 abbrev pub after : Settings → List (List Float) → State
-after p xs = runOf insertOf (fresh p) xs
+after = whole.after dbstream hasPlace
 
--- what each insert was answered
 abbrev pub told : Settings → List (List Float) → List Insertion
-told p xs = answersOf insertOf (fresh p) xs
-
--- what the drift monitor observed
-abbrev pub seen : Settings → List (List Float) → List Seen
-seen p xs = seenFrom insertOf nearestFor 0 (fresh p) xs
+told = whole.told dbstream hasPlace
 
 -- of one stream, after any list of inserts
 pub record OneStream (p : Settings) (xs : List (List Float)) : Type 0 where
-  -- the settings are the opened ones, and t_gap and floor are theirs: so the labels go by the opening's thresholds
-  pub settings : after p xs .settings ≡ p
-  pub tGap : after p xs .tGap ≡ tGapOf (p .lambda)
-  pub floor : after p xs .floor ≡ floorOf (p .lambda)
+  -- as of either stream: settings that stay, when a cleanup is due, the drift report
+  pub run : whole.OneRun dbstream hasPlace p xs
   -- t_gap is a whole number of ticks, from 1 to 2^32
-  pub period : Period (2 ^ 32) (tGapOf (p .lambda))
-  -- so a cleanup is due exactly where the remainder of the doubles is 0, as in the Rust: `t % t_gap == 0.0`
-  pub due : isMultiple (after p xs .t) (tGapOf (p .lambda)) ≡ eq (rem binary64 (after p xs .t) (tGapOf (p .lambda))) nought
+  pub period : Period (2 ^ 32) (paramsOf p .tGap)
   pub labels : LabelsTellFamilies (clusterOf (after p xs))
   pub holdings : FromFresh (acceptedIn (told p xs)) (after p xs)
   pub figures : Figures (acceptedIn (told p xs)) (after p xs)
   pub fits : Fits (after p xs)
   -- a number given out before some of the inserts and live after them was live before them: no number is used twice
   pub neverReused :
-      (earlier later : List (List Float)) → earlier ++ later ≡ xs → (a : ℕ) → a < after p earlier .next → Live (after p xs .micros) a →
-      Live (after p earlier .micros) a
-  -- the drift monitor is the fresh one after these observations
-  pub drift : after p xs .drift ≡ watchOf (newOf (p .r)) (seen p xs)
-  -- so its report is told from them: the alarms, the last one's tick, and the window of the values seen
-  pub report : Heard (p .r) (seen p xs) (after p xs .drift)
-  -- and whose window has room for any value: no insert meets the window's refusal 8
-  pub window : (v : Float) → updateOf (after p xs .drift .window) v .refusal ≡ 0
+      (earlier later : List (List Float)) → earlier ++ later ≡ xs → (a : ℕ) → a < after p earlier .held .next → Live (after p xs .held .micros) a →
+      Live (after p earlier .held .micros) a
 
 -- of two streams, the second's bounds no larger, after the same list
 pub record TwoStreams (p q : Settings) (xs : List (List Float)) : Type 0 where
@@ -204,7 +181,4 @@ pub record TwoStreams (p q : Settings) (xs : List (List Float)) : Type 0 where
 pub record Demand3 : Type 0 where
   pub one : (p : Settings) → Opens p → (xs : List (List Float)) → OneStream p xs
   pub two : (p q : Settings) → Opens p → Opens q → Laxer p q → (xs : List (List Float)) → TwoStreams p q xs
-  -- "Fresh means as an accepted opening gives it"
-  pub opened : (p : Settings) → Opens p → openOf p .stream ≡ fresh p
-  -- "a refused insert changes nothing"
-  pub refused : (s : State) (x : List Float) → insertOf s x .answer ≢ Done → insertOf s x .stream ≡ s
+  pub calls : whole.Calls dbstream hasPlace

@@ -1,45 +1,38 @@
 -- Demand 3 for DenStream, as document 01 says it under "A whole run". Statements only; proofs/Theorem proves them.
 use Prim.Native.Nat.{ℕ, _+_, _^_, _≤_, _<_}
 use mathlib.Core.Path.{_≡_}
-use mathlib.Core.Logic.{_↔_, _⊎_, _≢_}
+use mathlib.Core.Logic.{_↔_, _⊎_}
 use mathlib.Core.Bool.{true, false}
 use mathlib.Core.List.{List, [], map}
 use lib.IntN.{ℤ, pos, negsuc}
 use lib.ListN.{length, getD}
-use lib.Ieee.{Float, binary64, neg, le, eq, rem}
+use lib.Ieee.{Float, neg, le, eq}
 use Rattle.float.specs.Rounded.{_⊖_, _⊗_, nought, one, whole}
 use Rattle.float.specs.TwoTo.{twoTo}
 use Rattle.union_find.specs.Pairs.{Chain}
 use Rattle.labels.specs.Group.{Summed}
-use Rattle.adwin.specs.Window.{updateOf}
-use Rattle.drift.specs.Monitor.{newOf}
-use Rattle.drift.specs.History.{Seen, watchOf}
-use Rattle.drift.specs.Laws.{Heard}
 use Rattle.model.specs.declared.micro.Micro.{Micro}
-use Rattle.model.specs.declared.answers.Opening.the-variants.{Open}
 use Rattle.model.specs.declared.answers.Insertion.{Insertion}
-use Rattle.model.specs.declared.answers.Insertion.the-variants.{Done}
 use Rattle.model.specs.Limits.{microsMost}
-use Rattle.model.specs.Run.{runOf, answersOf, acceptedIn}
-use Rattle.model.specs.Fading.{isMultiple}
+use Rattle.model.specs.Run.{acceptedIn}
 use Rattle.model.specs.PeriodLaws.{Period}
-use Rattle.model.specs.DenState.{Settings, State, paramsOf, asked, fresh, openOf}
-use Rattle.model.specs.DenInsert.{nearestFor, insertOf}
-use Rattle.model.specs.DenCluster.{close, fadedWeights, clusterOf}
+use Rattle.model.specs.DenState.{Settings, State, paramsOf}
+use Rattle.model.specs.DenCluster.{close, fadedWeights}
+use Rattle.model.specs.Denstream.{denstream, hasPlace, clusterOf}
 use Rattle.claims.specs.Lists.{Each}
 use Rattle.claims.specs.Clock.{Counts}
 use Rattle.claims.specs.Weighed.{Weighed}
-use Rattle.claims.specs.History.{seenFrom}
+use Rattle.claims.specs.Whole as whole
 
 -- ---- labels
 -- "A centre is a potential one's mean"
 abbrev pub centre : State → ℕ → List Float
-centre s i = getD (map (λ (m : Micro). m .cf .mean) (s .potential)) i []
+centre s i = getD (map (λ (m : Micro). m .cf .mean) (s .held .potential)) i []
 
 -- one step of a chain, which may take it either way round: the centres of the places i and j are at squared distance ≤ 4×(eps×eps)
 pub record Step (s : State) (i j : ℕ) : Type 0 where
   pub first : i < j
-  pub held : j < length (s .potential)
+  pub held : j < length (s .held .potential)
   pub near : close (s .params .eps2) (centre s i) (centre s j) ≡ true
 
 -- "a group is all potential ones chained to one of them": i and j are in one
@@ -60,23 +53,23 @@ label s i = getD (s .labels) i (negsuc 0)
 -- of a clustered stream
 pub record LabelsTellGroups (s : State) : Type 0 where
   -- a label for each potential one, and a weight for each group
-  pub count : length (s .labels) ≡ length (s .potential)
-  pub weighed : (i : ℕ) → i < length (s .potential) → (v : Float) × Weighs s i v
+  pub count : length (s .labels) ≡ length (s .held .potential)
+  pub weighed : (i : ℕ) → i < length (s .held .potential) → (v : Float) × Weighs s i v
   -- −1 is the label of those whose group weighs under mu, and of no other
-  pub light : (i : ℕ) (v : Float) → i < length (s .potential) → Weighs s i v → (label s i ≡ negsuc 0) ↔ UnderMu s v
+  pub light : (i : ℕ) (v : Float) → i < length (s .held .potential) → Weighs s i v → (label s i ≡ negsuc 0) ↔ UnderMu s v
   -- two labels are equal exactly where both groups weigh under mu, or both lie in one group
   pub groups :
-      (i j : ℕ) (v u : Float) → i < length (s .potential) → j < length (s .potential) → Weighs s i v → Weighs s j u →
+      (i j : ℕ) (v u : Float) → i < length (s .held .potential) → j < length (s .held .potential) → Weighs s i v → Weighs s j u →
       (label s i ≡ label s j) ↔ ((UnderMu s v × UnderMu s u) ⊎ OneGroup s i j)
   -- "Labels count from 0 by first member, −1 otherwise.": a label is −1 or a count, and each smaller count stands before it
-  pub counts : (i : ℕ) → i < length (s .potential) → (label s i ≡ negsuc 0) ⊎ ((c : ℕ) × (label s i ≡ pos c))
-  pub fromZero : (i c m : ℕ) → i < length (s .potential) → label s i ≡ pos c → m < c → (j : ℕ) × (j < i) × (label s j ≡ pos m)
+  pub counts : (i : ℕ) → i < length (s .held .potential) → (label s i ≡ negsuc 0) ⊎ ((c : ℕ) × (label s i ≡ pos c))
+  pub fromZero : (i c m : ℕ) → i < length (s .held .potential) → label s i ≡ pos c → m < c → (j : ℕ) × (j < i) × (label s j ≡ pos m)
 
 -- ---- a stream from fresh, after n accepted inserts
 pub record FromFresh (n : ℕ) (s : State) : Type 0 where
   pub clock : Counts n (s .t)
   -- both pools together
-  pub places : length (s .potential) + length (s .outliers) ≤ microsMost
+  pub places : length (s .held .potential) + length (s .held .outliers) ≤ microsMost
 
 -- what is kept of a micro-cluster: its mean, its weight, and its birth at the tick of an accepted insert
 pub record Kept (n dim : ℕ) (m : Micro) : Type 0 where
@@ -87,48 +80,31 @@ pub record Kept (n dim : ℕ) (m : Micro) : Type 0 where
   pub born : m .t0 ≡ whole birth
 
 pub record Figures (n : ℕ) (s : State) : Type 0 where
-  pub potential : Each (Kept n (s .params .dim)) (s .potential)
-  pub outliers : Each (Kept n (s .params .dim)) (s .outliers)
+  pub potential : Each (Kept n (s .params .dim)) (s .held .potential)
+  pub outliers : Each (Kept n (s .params .dim)) (s .held .outliers)
 
 -- ---- demand 3
 abbrev pub Opens : Settings → Type 0
-Opens p = asked p ≡ Open
+Opens = whole.Opens denstream
 
--- the stream after the opening and every insert of the list, "refused or not"
 abbrev pub after : Settings → List (List Float) → State
-after p xs = runOf insertOf (fresh p) xs
+after = whole.after denstream hasPlace
 
--- what each insert was answered
 abbrev pub told : Settings → List (List Float) → List Insertion
-told p xs = answersOf insertOf (fresh p) xs
-
--- what the drift monitor observed
-abbrev pub seen : Settings → List (List Float) → List Seen
-seen p xs = seenFrom insertOf nearestFor 0 (fresh p) xs
+told = whole.told denstream hasPlace
 
 -- of one stream, after any list of inserts
 pub record OneStream (p : Settings) (xs : List (List Float)) : Type 0 where
-  -- dim, eps × eps, lambda, bm, mu and tp are those of the opening: so the labels go by its thresholds
-  pub params : after p xs .params ≡ paramsOf p
+  -- as of either stream: settings that stay, when the pools are pruned, the drift report
+  pub run : whole.OneRun denstream hasPlace p xs
   -- tp is a whole number of ticks, from 1 to 2^38
   pub period : Period (2 ^ 38) (paramsOf p .tp)
-  -- so a pruning is due exactly where the remainder of the doubles is 0, as in the Rust: `t % tp == 0.0`
-  pub due : isMultiple (after p xs .t) (paramsOf p .tp) ≡ eq (rem binary64 (after p xs .t) (paramsOf p .tp)) nought
   -- and what outliers need is no division by 0: "/ (2^(−lambda×tp) − 1)"
   pub divisor : eq (twoTo (neg (p .lambda) ⊗ paramsOf p .tp) ⊖ one) nought ≡ false
   pub labels : LabelsTellGroups (clusterOf (after p xs))
   pub holdings : FromFresh (acceptedIn (told p xs)) (after p xs)
   pub figures : Figures (acceptedIn (told p xs)) (after p xs)
-  -- the drift monitor is the fresh one after these observations
-  pub drift : after p xs .drift ≡ watchOf (newOf (p .eps)) (seen p xs)
-  -- so its report is told from them: the alarms, the last one's tick, and the window of the values seen
-  pub report : Heard (p .eps) (seen p xs) (after p xs .drift)
-  -- and whose window has room for any value: no insert meets the window's refusal 8
-  pub window : (v : Float) → updateOf (after p xs .drift .window) v .refusal ≡ 0
 
 pub record Demand3 : Type 0 where
   pub one : (p : Settings) → Opens p → (xs : List (List Float)) → OneStream p xs
-  -- "Fresh means as an accepted opening gives it"
-  pub opened : (p : Settings) → Opens p → openOf p .stream ≡ fresh p
-  -- "a refused insert changes nothing"
-  pub refused : (s : State) (x : List Float) → insertOf s x .answer ≢ Done → insertOf s x .stream ≡ s
+  pub calls : whole.Calls denstream hasPlace

@@ -1,21 +1,19 @@
 -- What a stream's drift monitor observes in a run, of any stream. Definitions only.
 use Prim.Native.Nat.{ℕ, _+_}
+use mathlib.Core.Bool.{cond}
 use mathlib.Core.List.{List, [], _∷_}
 use lib.Ieee.{Float}
 use Rattle.float.specs.Rounded.{whole}
 use Rattle.drift.specs.declared.Nearest.{Nearest}
 use Rattle.drift.specs.History.{Seen}
 use Rattle.model.specs.declared.answers.Insertion.{Insertion}
-use Rattle.model.specs.declared.answers.Insertion.the-variants.{Done, Shape, ClockAtLimit, NoPlace}
+use Rattle.model.specs.Answers.{isDone}
 use Rattle.model.specs.Outcome.{Outcome}
 use Rattle.model.specs.Run.{oneIfDone}
 
 -- a refused insert is not observed
 abbrev pub seenIf : Insertion → Seen → List Seen → List Seen
-seenIf Done o rest = o ∷ rest
-seenIf (Shape expected got) o rest = rest
-seenIf ClockAtLimit o rest = rest
-seenIf NoPlace o rest = rest
+seenIf a o rest = cond (isDone a) (o ∷ rest) rest
 
 module _ {S : Type 0} (insert : S → List Float → Outcome S) (nearest : S → List Float → Nearest) where
   -- the nearest distance of each accepted insert, taken before it, at the ticks n, n + 1 and on

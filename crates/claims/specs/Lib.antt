@@ -4,5 +4,6 @@ pub mod Clock
 pub mod LnAsked
 pub mod Weighed
 pub mod History
+pub mod Whole
 pub mod DbClaims
 pub mod DenClaims

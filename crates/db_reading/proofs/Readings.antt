@@ -12,17 +12,17 @@ use Rattle.model.specs.DbCluster.{storedWeight, connectivityOf}
 use Rattle.micro.specs.Held.{cutTo}
 use Rattle.micro.specs.Views.{weight-view}
 use Rattle.link.specs.Between.{connectivityAmong, connectivity-view}
-use Rattle.readout.specs.Seen.{seen}
 use Rattle.dbstream.specs.declared.DbStream.{DbStream}
 use Rattle.dbstream.specs.Stream.{view, dimOf}
 
 module _ (s : DbStream) (a b : MicroId) (ids : List MicroId) (mean : Float) where
   pub connected :
       take (s .count) ids ≡ map idOf (take (s .count) (s .micros)) → mean ≡ (storedWeight (take (s .count) (s .micros)) a ⊕ storedWeight (take (s .count) (s .micros)) b) ⊘ two →
-      (said : Said Float) → said ≡ connectivityAmong (take (s .count) ids) a b mean (s .lambda) (s .t) (view s .links) → said ≡ connectivityOf (view s) a b
+      (said : Said Float) → said ≡ connectivityAmong (take (s .count) ids) a b mean (s .lambda) (s .t) (view s .held .links) →
+      said ≡ connectivityOf (view s) a b
   connected names weighed said e =
       e
-      ∙ ap₂ (λ (l : List MicroId) (w : Float). connectivityAmong l a b w (s .lambda) (s .t) (view s .links))
+      ∙ ap₂ (λ (l : List MicroId) (w : Float). connectivityAmong l a b w (s .lambda) (s .t) (view s .held .links))
       (names ∙ sym (map-map idOf (cutTo (dimOf s)) ms)) (weighed ∙ ap₂ (λ (x y : Float). (x ⊕ y) ⊘ two) (weight-view (dimOf s) ms a) (weight-view (dimOf s) ms b))
       ∙ connectivity-view (view s) a b
     where

@@ -7,7 +7,8 @@ use model::Reading;
 ghost use mathlib.Core.Path.{_≡_};
 ghost use Rattle.model.specs.Answers.{predictionSaid, connectivitySaid};
 ghost use Rattle.model.specs.ReadOut.{clustersIn};
-ghost use Rattle.model.specs.DbCluster.{predictOf, labelsReadOf, statisticsOf, connectivityOf};
+ghost use Rattle.model.specs.DbCluster.{connectivityOf};
+ghost use Rattle.model.specs.Dbstream.{predictOf, labelsReadOf, statisticsOf};
 ghost use Rattle.readout.specs.Told.{labelsTold, statisticsTold};
 ghost use Rattle.dbstream.specs.Stream.{view};
 

@@ -22,10 +22,10 @@ use Rattle.model.specs.Any.{any}
 use Rattle.model.specs.Limits.{microsMost}
 use Rattle.model.specs.Answers.{isDone}
 use Rattle.model.specs.Questions.{insertionAsked}
-use Rattle.model.specs.Outcome.{outcome}
-use Rattle.model.specs.InsertLaws.{inserted-by}
+use Rattle.model.specs.StreamLaws.{inserted-by}
 use Rattle.model.specs.DbState.{State}
-use Rattle.model.specs.DbInsert.{isNeighbour, neighboursOf, isAbsorbed, newborn, absorbs, absorbed, pairsOf, gainOf, born, joined, placed, tickOf, takenOf, hasPlace, insertOf}
+use Rattle.model.specs.DbInsert.{isNeighbour, neighboursOf, isAbsorbed, newborn, absorbs, absorbed, pairsOf, gainOf, born, joined, placed}
+use Rattle.model.specs.Dbstream.{dbstream, tickOf, hasPlace, insertOf}
 use Rattle.neighbours.specs.declared.scan.Scan.{Scan}
 use Rattle.micro.specs.Held.{cutTo, held}
 use Rattle.neighbours.specs.Near.{absorbNear}
@@ -34,7 +34,7 @@ use Rattle.neighbours.specs.Scanned.{scanTold, scanOf}
 use Rattle.neighbours.specs.Views.{absorb-view, newborn-view}
 use Rattle.dbstream.specs.declared.DbStream.{DbStream}
 use Rattle.dbstream.specs.Stream.{view, dimOf}
-use Rattle.dbstream.specs.Placed.{changed, microsBy, gainedBy, placedBy}
+use Rattle.dbstream.specs.Placed.{placedBy, toldOf, holds, microsBy, gainedBy, heldBy}
 
 -- a point that nobody absorbs has a place only where fewer than 64 are held
 place-free : (f : Scan) (n : ℕ) → hasPlaceBy f n ≡ true → f .count ≡ 0 → n < microsMost
@@ -90,68 +90,70 @@ few {s} {x} {y} {d} {f} m =
 
 -- of a point of dim coordinates
 module _ {s : DbStream} {x y : List Float} {d : ℕ} {f : Scan} (m : Met s x y d f) (ex : length x ≡ d) where
-  met : scanTold (s .count) f ≡ scanOf (s .r) x (view s .micros)
+  met : scanTold (s .count) f ≡ scanOf (s .r) x (view s .held .micros)
   met = m .scanned ∙ ap₂ (λ (z : List Float) (q : ℕ). scanOf (s .r) z (held q (s .count) (s .micros))) (m .point ex) (m .coordinates)
 
   k-is : length (neighboursOf (view s) x) ≡ f .count
   k-is = sym (ap (λ (q : Scan). q .count) met)
 
   none : f .count ≡ 0 → isAbsorbed (view s) x ≡ false
-  none h = any-none (isNeighbour (s .r) x) (view s .micros) (k-is ∙ h)
+  none h = any-none (isNeighbour (s .r) x) (view s .held .micros) (k-is ∙ h)
 
   some : f .count ≢ 0 → isAbsorbed (view s) x ≡ true
-  some h = any-some (isNeighbour (s .r) x) (view s .micros) (omega (arith, k-is, h))
+  some h = any-some (isNeighbour (s .r) x) (view s .held .micros) (omega (arith, k-is, h))
 
-  size : length (view s .micros) ≡ min (s .count) microsMost
+  size : length (view s .held .micros) ≡ min (s .count) microsMost
   size = map-length (cutTo (dimOf s)) (take (s .count) (s .micros)) ∙ length-take (s .count) (s .micros) ∙ ap (min (s .count)) (m .places)
 
-  free-is : ltb (s .count) microsMost ≡ ltb (length (view s .micros)) microsMost
+  free-is : ltb (s .count) microsMost ≡ ltb (length (view s .held .micros)) microsMost
   free-is =
-      by-cases (decLt (s .count) microsMost) (λ h. lt-ltb (s .count) microsMost h ∙ sym (lt-ltb (length (view s .micros)) microsMost (omega (arith, size, h))))
-      (λ h. le-ltb (s .count) microsMost (omega (arith, h)) ∙ sym (le-ltb (length (view s .micros)) microsMost (omega (arith, size, h))))
+      by-cases (decLt (s .count) microsMost)
+      (λ h. lt-ltb (s .count) microsMost h ∙ sym (lt-ltb (length (view s .held .micros)) microsMost (omega (arith, size, h))))
+      (λ h. le-ltb (s .count) microsMost (omega (arith, h)) ∙ sym (le-ltb (length (view s .held .micros)) microsMost (omega (arith, size, h))))
 
   place-is : hasPlaceBy f (s .count) ≡ hasPlace (view s) x
   place-is =
       ap₂ (λ (a b : Bool). a || b)
       (by-cases (ℕ-discrete (f .count) 0) (λ h. ap not (eq-eqb (f .count) 0 h) ∙ sym (none h)) (λ h. ap not (ne-eqb (f .count) 0 h) ∙ sym (some h))) free-is
 
-  micros-born : f .count ≡ 0 → s .count < microsMost → microsBy s f y ≡ view s .micros ++ newborn (dimOf s) (s .«next_id») (s .t) x ∷ []
+  micros-born : f .count ≡ 0 → s .count < microsMost → microsBy s f y ≡ view s .held .micros ++ newborn (dimOf s) (s .«next_id») (s .t) x ∷ []
   micros-born z h =
       rw (eq-eqb (f .count) 0 z, lt-ltb (s .count) microsMost h)
       (map-append (cutTo (dimOf s)) (take (s .count) (s .micros)) (newborn maxDim (s .«next_id») (s .t) y ∷ [])
-      ∙ ap (λ (v : DbMicro). view s .micros ++ v ∷ [])
+      ∙ ap (λ (v : DbMicro). view s .held .micros ++ v ∷ [])
       (ap (λ (q : List Float). cutTo (dimOf s) (newborn maxDim (s .«next_id») (s .t) q)) (m .point ex) ∙ newborn-view (dimOf s) x (ex ∙ m .coordinates) (omega arith) (s .t) (s .«next_id»)))
 
-  micros-absorbed : f .count ≢ 0 → microsBy s f y ≡ map (absorbed (s .r) (s .lambda) (s .t) x) (view s .micros)
+  micros-absorbed : f .count ≢ 0 → microsBy s f y ≡ map (absorbed (s .r) (s .lambda) (s .t) x) (view s .held .micros)
   micros-absorbed h =
       rw (ne-eqb (f .count) 0 h)
       (ap₂ (λ (z q : List Float). map (cutTo (dimOf s)) (absorbNear (s .r ⊗ s .r) (absorbs (s .lambda) (s .t) z) q (take (s .count) (s .micros)))) (m .point ex) (ap (λ (q : Scan). q .distances) met)
       ∙ absorb-view (dimOf s) x (ex ∙ m .coordinates) (s .r) (s .lambda) (s .t) (take (s .count) (s .micros)))
 
   -- no pair, no gain
-  links-stay : f .count ≡ 0 → gainedBy s f ≡ view s .links
+  links-stay : f .count ≡ 0 → gainedBy s f ≡ view s .held .links
   links-stay h =
       let short : length (take (f .count) (f .ids)) ≤ 1 = omega (arith, length-take (f .count) (f .ids)) in
-      ap (foldl (gainOf (s .lambda) (s .t)) (view s .links)) (no-pair (take (f .count) (f .ids)) short)
+      ap (foldl (gainOf (s .lambda) (s .t)) (view s .held .links)) (no-pair (take (f .count) (f .ids)) short)
 
-  placed-is : (f .count ≡ 0 → s .count < microsMost) → placedBy s f y ≡ placed (view s) x
+  placed-is : (f .count ≡ 0 → s .count < microsMost) → heldBy s f y ≡ placed (view s) x
   placed-is free =
       by-cases (ℕ-discrete (f .count) 0)
       (λ h.
-      ap (λ (q : MicroId). changed s q (microsBy s f y) (gainedBy s f)) (rw (eq-eqb (f .count) 0 h, lt-ltb (s .count) microsMost (free h)) refl)
-      ∙ ap₂ (changed s (record { 0 = (s .«next_id» .0 + 1) % 2 ^ 64 })) (micros-born h (free h)) (links-stay h)
+      ap (λ (q : MicroId). holds q (microsBy s f y) (gainedBy s f)) (rw (eq-eqb (f .count) 0 h, lt-ltb (s .count) microsMost (free h)) refl)
+      ∙ ap₂ (holds (record { 0 = (s .«next_id» .0 + 1) % 2 ^ 64 })) (micros-born h (free h)) (links-stay h)
       ∙ sym (ap (λ (c : Bool). cond c (joined (view s) x) (born (view s) x)) (none h)))
       (λ h.
-      ap (λ (q : MicroId). changed s q (microsBy s f y) (gainedBy s f)) (rw (ne-eqb (f .count) 0 h) refl)
-      ∙ ap₂ (changed s (s .«next_id»)) (micros-absorbed h) (ap (λ (q : Scan). foldl (gainOf (s .lambda) (s .t)) (view s .links) (pairsOf (q .ids))) met)
+      ap (λ (q : MicroId). holds q (microsBy s f y) (gainedBy s f)) (rw (ne-eqb (f .count) 0 h) refl)
+      ∙ ap₂ (holds (s .«next_id»)) (micros-absorbed h)
+      (ap (λ (q : Scan). foldl (gainOf (s .lambda) (s .t)) (view s .held .links) (pairsOf (q .ids))) met)
       ∙ sym (ap (λ (c : Bool). cond c (joined (view s) x) (born (view s) x)) (some h)))
 
 -- ---- the whole insert
 module _ {s : DbStream} {x y : List Float} {d : ℕ} {f : Scan} (m : Met s x y d f) (a : Insertion) (place : Bool) (ep : place ≡ hasPlaceBy f (s .count)) (e : a ≡ insertionAsked d (length x) (s .t) place) where
   -- v is what becomes of the stream, by whether the answer is no refusal
-  pub inserted : (b : Bool) (v : State) → b ≡ isDone a → v ≡ cond b (tickOf (placedBy s f y) (f .nearest)) (view s) → record { answer = a; stream = v } ≡ insertOf (view s) x
-  unfolding insertOf
+  pub inserted :
+      (b : Bool) (v : State) → b ≡ isDone a → v ≡ cond b (tickOf (placedBy s f y) (toldOf s f y)) (view s) →
+      record { answer = a; stream = v } ≡ insertOf (view s) x
   inserted b v eb ev =
-      inserted-by d (length x) (s .t) place (hasPlace (view s) x) (view s) (takenOf (view s) x) (tickOf (placedBy s f y) (f .nearest)) v a b (λ h. ep ∙ place-is m h) e eb ev
-      (λ h p. ap₂ tickOf (placed-is m h (place-free f (s .count) (sym ep ∙ p))) (ap (λ (q : Scan). q .nearest) (met m h)))
-      ∙ ap (λ (q : ℕ). outcome (insertionAsked q (length x) (s .t) (hasPlace (view s) x)) (view s) (takenOf (view s) x)) (m .coordinates)
+      inserted-by dbstream (view s) x d place (heldBy s f y) (f .nearest) a b v (m .coordinates) (λ h. ep ∙ place-is m h)
+      (λ h p. placed-is m h (place-free f (s .count) (sym ep ∙ p))) (λ h. ap (λ (q : Scan). q .nearest) (met m h)) e eb ev

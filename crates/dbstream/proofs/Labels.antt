@@ -8,13 +8,14 @@ use Rattle.float.specs.Rounded.{_⊗_}
 use Rattle.model.specs.declared.micro.MicroId.{MicroId}
 use Rattle.model.specs.Families.{labelsBy}
 use Rattle.model.specs.DbInsert.{idOf}
-use Rattle.model.specs.DbState.{State}
-use Rattle.model.specs.DbCluster.{isStrong, strongOnes, labelsOf, clusterOf}
+use Rattle.model.specs.Stream.{labelled}
+use Rattle.model.specs.DbCluster.{isStrong, strongOnes, labelsOf}
+use Rattle.model.specs.Dbstream.{clusterOf}
 use Rattle.micro.specs.Held.{cutTo, reaches}
 use Rattle.joins.specs.Joined.{joinedBy}
 use Rattle.joins.specs.JoinedLaws.{joined-view}
 use Rattle.dbstream.specs.declared.DbStream.{DbStream}
-use Rattle.dbstream.specs.Stream.{view, dimOf, settingsOf}
+use Rattle.dbstream.specs.Stream.{view, dimOf}
 
 module _
     (s : DbStream)
@@ -23,33 +24,23 @@ module _
   strong-are : take (s .count) mask ≡ strongOnes (view s)
   strong-are = emask ∙ sym (map-map (isStrong (view s)) (cutTo (dimOf s)) (take (s .count) (s .micros)))
 
-  ids-are : take (s .count) ids ≡ map idOf (view s .micros)
+  ids-are : take (s .count) ids ≡ map idOf (view s .held .micros)
   ids-are = eids ∙ sym (map-map idOf (cutTo (dimOf s)) (take (s .count) (s .micros)))
 
   labels-are :
-      (labels : List ℤ) → take (s .count) labels ≡ labelsBy (take (s .count) mask) (joinedBy (take (s .count) ids) (take (s .count) mask) (s .lambda) (s .t) (s .alpha ⊗ s .«min_weight») (view s .links)) →
+      (labels : List ℤ) → take (s .count) labels
+      ≡ labelsBy (take (s .count) mask)
+      (joinedBy (take (s .count) ids) (take (s .count) mask) (s .lambda) (s .t) (s .alpha ⊗ s .«min_weight») (view s .held .links)) →
       take (s .count) labels ≡ labelsOf (view s)
   unfolding labelsOf
   labels-are labels e =
-      e ∙ ap₂ (λ (bs : List Bool) (is : List MicroId). labelsBy bs (joinedBy is bs (s .lambda) (s .t) (s .alpha ⊗ s .«min_weight») (view s .links))) strong-are ids-are
-      ∙ ap (labelsBy (strongOnes (view s))) (joined-view (view s) (view s .links))
-
-  -- s with these labels
-  abbrev labelled : List ℤ → State
-  labelled labels =
-      record {
-        settings = settingsOf s;
-        tGap = s .«t_gap»;
-        floor = s .floor;
-        t = s .t;
-        next = s .«next_id» .0;
-        micros = view s .micros;
-        links = view s .links;
-        labels = labels;
-        drift = view s .drift;
-      }
+      e ∙ ap₂ (λ (bs : List Bool) (is : List MicroId). labelsBy bs (joinedBy is bs (s .lambda) (s .t) (s .alpha ⊗ s .«min_weight») (view s .held .links)))
+      strong-are ids-are
+      ∙ ap (labelsBy (strongOnes (view s))) (joined-view (view s) (view s .held .links))
 
   pub clustered :
-      (labels : List ℤ) → take (s .count) labels ≡ labelsBy (take (s .count) mask) (joinedBy (take (s .count) ids) (take (s .count) mask) (s .lambda) (s .t) (s .alpha ⊗ s .«min_weight») (view s .links)) →
-      labelled (take (s .count) labels) ≡ clusterOf (view s)
-  clustered labels e = ap labelled (labels-are labels e)
+      (labels : List ℤ) → take (s .count) labels
+      ≡ labelsBy (take (s .count) mask)
+      (joinedBy (take (s .count) ids) (take (s .count) mask) (s .lambda) (s .t) (s .alpha ⊗ s .«min_weight») (view s .held .links)) →
+      labelled (view s) (take (s .count) labels) ≡ clusterOf (view s)
+  clustered labels e = ap (labelled (view s)) (labels-are labels e)

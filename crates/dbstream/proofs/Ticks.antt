@@ -2,10 +2,10 @@
 use Prim.Native.Nat.{ℕ}
 use mathlib.Core.Path.{_≡_, refl, sym, ap, _∙_}
 use mathlib.Core.List.{List, map, map-map, foldl}
-use mathlib.Core.Bool.{Bool, true, false, cond}
+use mathlib.Core.Bool.{true, false}
 use lib.Ieee.{Float}
 use lib.ListN.{take}
-use Rattle.float.specs.Rounded.{one}
+use Rattle.float.specs.Rounded.{_⊕_, one}
 use Rattle.lists.specs.Retain.{retain}
 use Rattle.lists.specs.Maps.{map-retain}
 use Rattle.drift.specs.declared.Nearest.{Nearest}
@@ -15,50 +15,44 @@ use Rattle.model.specs.declared.micro.MicroId.{MicroId}
 use Rattle.model.specs.declared.micro.DbMicro.{DbMicro}
 use Rattle.model.specs.declared.link.Link.{Link}
 use Rattle.model.specs.declared.clock.Ticked.{Ticked}
+use Rattle.model.specs.Fading.{isMultiple}
 use Rattle.model.specs.Ticking.{Tick, tickTold, tickedOf}
 use Rattle.model.specs.DbState.{State}
-use Rattle.model.specs.DbInsert.{idOf, pairsOf, gainOf, microStays, linkStays, cleanup, advanced, tickOf}
+use Rattle.model.specs.DbInsert.{idOf, pairsOf, gainOf, microStays, linkStays}
+use Rattle.model.specs.Stream.{holding, taking, advanced, cleanedOf}
+use Rattle.model.specs.StreamLaws as laws
+use Rattle.model.specs.Dbstream.{dbstream, tickOf}
 use Rattle.neighbours.specs.declared.scan.Scan.{Scan}
 use Rattle.micro.specs.Held.{cutTo, held}
 use Rattle.neighbours.specs.Placing.{placedAmong, nextAfter}
 use Rattle.link.specs.Among.{staysAmong, retain-among}
 use Rattle.dbstream.specs.declared.DbStream.{DbStream}
 use Rattle.dbstream.specs.Stream.{view, dimOf}
-use Rattle.dbstream.specs.Placed.{changed, microsBy, placedBy}
+use Rattle.dbstream.specs.Placed.{holds, microsBy, placedBy}
 
 -- ---- the cleanup
 module _ (s : DbStream) (n : ℕ) (ms : List DbMicro) (ids : List MicroId) (k : ℕ) (ls : List Link) where
   -- s over these micro-clusters and links
   abbrev over : List DbMicro → List Link → State
-  over kept bound =
-      record {
-        settings = view s .settings;
-        tGap = s .«t_gap»;
-        floor = s .floor;
-        t = s .t;
-        next = s .«next_id» .0;
-        micros = kept;
-        links = bound;
-        labels = view s .labels;
-        drift = view s .drift;
-      }
+  over kept bound = holding (view s) (record { next = s .«next_id» .0; micros = kept; links = bound })
 
   pub cleaned :
       take n ms ≡ retain (microStays (s .lambda) (s .floor) (s .t)) (take (s .count) (s .micros)) → take n ids ≡ map idOf (take n ms) →
       take k ls ≡ retain (staysAmong (s .lambda) (s .floor) (s .t) (take n ids)) (take (s .«link_count») (s .links)) →
-      over (held (dimOf s) n ms) (take k ls) ≡ cleanup (view s)
+      over (held (dimOf s) n ms) (take k ls) ≡ cleanedOf dbstream (view s)
   cleaned kept names bound =
       ap (over (held (dimOf s) n ms)) links-are
-      ∙ ap (λ (q : List DbMicro). over q (retain (linkStays (s .lambda) (s .floor) (s .t) q) (view s .links))) micros-are
+      ∙ ap (λ (q : List DbMicro). over q (retain (linkStays (s .lambda) (s .floor) (s .t) q) (view s .held .links))) micros-are
     where
-      micros-are : held (dimOf s) n ms ≡ retain (microStays (s .lambda) (s .floor) (s .t)) (view s .micros)
+      micros-are : held (dimOf s) n ms ≡ retain (microStays (s .lambda) (s .floor) (s .t)) (view s .held .micros)
       micros-are = ap (map (cutTo (dimOf s))) kept ∙ map-retain (cutTo (dimOf s)) (microStays (s .lambda) (s .floor) (s .t)) (take (s .count) (s .micros))
 
-      links-are : take k ls ≡ retain (linkStays (s .lambda) (s .floor) (s .t) (held (dimOf s) n ms)) (view s .links)
+      links-are : take k ls ≡ retain (linkStays (s .lambda) (s .floor) (s .t) (held (dimOf s) n ms)) (view s .held .links)
       links-are =
           bound
-          ∙ ap (λ (q : List MicroId). retain (staysAmong (s .lambda) (s .floor) (s .t) q) (view s .links)) (names ∙ sym (map-map idOf (cutTo (dimOf s)) (take n ms)))
-          ∙ retain-among (s .lambda) (s .floor) (s .t) (held (dimOf s) n ms) (view s .links)
+          ∙ ap (λ (q : List MicroId). retain (staysAmong (s .lambda) (s .floor) (s .t) q) (view s .held .links))
+          (names ∙ sym (map-map idOf (cutTo (dimOf s)) (take n ms)))
+          ∙ retain-among (s .lambda) (s .floor) (s .t) (held (dimOf s) n ms) (view s .held .links)
 
 -- ---- the stream as the steps of an insert change it
 abbrev pub having : DbStream → MicroId → List DbMicro → (count : ℕ) → List Link → (links labels : ℕ) → (t : Float) → DriftMonitor → DbStream
@@ -110,9 +104,9 @@ module _ (s : DbStream) (f : Scan) (x : List Float) (next : MicroId) (ms : List 
       view (having u (u .«next_id») (u .micros) (u .count) (u .links) n 0 (u .t) (u .drift)) ≡ placedBy s f x
   placed-is placed numbered is gained =
       ap (λ (v : DbStream). view (having v (v .«next_id») (v .micros) (v .count) (u .links) n 0 (v .t) (v .drift))) is
-      ∙ ap (λ (ls : List Link). changed s next (held (dimOf s) count ms) ls) gained
-      ∙ ap (λ (l : List DbMicro). changed s next (map (cutTo (dimOf s)) l) links) placed
-      ∙ ap (λ (q : MicroId). changed s q (microsBy s f x) links) numbered
+      ∙ ap (λ (ls : List Link). taking (view s) (holds next (held (dimOf s) count ms) ls)) gained
+      ∙ ap (λ (l : List DbMicro). taking (view s) (holds next (map (cutTo (dimOf s)) l) links)) placed
+      ∙ ap (λ (q : MicroId). taking (view s) (holds q (microsBy s f x) links)) numbered
     where
       links : List Link
       links = goal s (s .lambda) (s .t) (f .ids) (f .count)
@@ -124,30 +118,14 @@ module _ (s : DbStream) (near : Nearest) (r : Ticked)
   later = having s (s .«next_id») (s .micros) (s .count) (s .links) (s .«link_count») (s .«label_count») (r .t) (r .drift)
 
   advanced-is : view later ≡ advanced (view s) near
-  advanced-is = ap (λ (q : Tick). at (q .t) (q .drift)) told
-    where
-      at : Float → Monitor → State
-      at t monitor =
-          record {
-            settings = view s .settings;
-            tGap = s .«t_gap»;
-            floor = s .floor;
-            t = t;
-            next = view s .next;
-            micros = view s .micros;
-            links = view s .links;
-            labels = view s .labels;
-            drift = monitor;
-          }
+  advanced-is =
+      ap (λ (q : Tick). record { params = view s .params; t = q .t; held = view s .held; labels = view s .labels; drift = q .drift }) told
+
+  due-is : tickTold r .due ≡ isMultiple (s .t ⊕ one) (s .«t_gap»)
+  due-is = ap (λ (q : Tick). q .due) told
 
   pub tick-still : r .due ≡ false → view later ≡ tickOf (view s) near
-  unfolding tickOf
-  tick-still e =
-      advanced-is
-      ∙ sym (ap (λ (b : Bool). cond b (cleanup (advanced (view s) near)) (advanced (view s) near)) (sym (ap (λ (q : Tick). q .due) told) ∙ e))
+  tick-still e = advanced-is ∙ laws.tick-still dbstream (view s) near (sym due-is ∙ e)
 
-  pub tick-cleans : (v : State) → r .due ≡ true → v ≡ cleanup (view later) → v ≡ tickOf (view s) near
-  unfolding tickOf
-  tick-cleans v e h =
-      h ∙ ap cleanup advanced-is
-      ∙ sym (ap (λ (b : Bool). cond b (cleanup (advanced (view s) near)) (advanced (view s) near)) (sym (ap (λ (q : Tick). q .due) told) ∙ e))
+  pub tick-cleans : (v : State) → r .due ≡ true → v ≡ cleanedOf dbstream (view later) → v ≡ tickOf (view s) near
+  tick-cleans v e h = h ∙ ap (cleanedOf dbstream) advanced-is ∙ laws.tick-cleans dbstream (view s) near (sym due-is ∙ e)

@@ -1,34 +1,22 @@
--- The stream after the micro-clusters and links of an insert and before its tick, by what the scan found. Definitions only.
-use mathlib.Core.List.{List, [], map, foldl}
+-- What is held after the micro-clusters and links of an insert and before its tick, by what the scan found. Definitions only.
+use mathlib.Core.List.{List, map, foldl}
 use lib.Ieee.{Float}
 use lib.ListN.{take}
-use Rattle.drift.specs.Monitor as drift
 use Rattle.drift.specs.declared.Nearest.{Nearest}
 use Rattle.model.specs.declared.micro.MicroId.{MicroId}
 use Rattle.model.specs.declared.micro.DbMicro.{DbMicro}
 use Rattle.model.specs.declared.link.Link.{Link}
-use Rattle.model.specs.DbState.{State}
+use Rattle.model.specs.Stream.{taking}
+use Rattle.model.specs.DbState.{Holdings, State}
 use Rattle.model.specs.DbInsert as insert
 use Rattle.neighbours.specs.declared.scan.Scan.{Scan}
 use Rattle.micro.specs.Held.{cutTo}
 use Rattle.neighbours.specs.Placing.{placedAmong, nextAfter}
 use Rattle.dbstream.specs.declared.DbStream.{DbStream}
-use Rattle.dbstream.specs.Stream.{dimOf, settingsOf}
+use Rattle.dbstream.specs.Stream.{view, dimOf}
 
--- s with these micro-clusters, links and next creation number, and no labels
-abbrev pub changed : DbStream → MicroId → List DbMicro → List Link → State
-changed s next ms ls =
-    record {
-      settings = settingsOf s;
-      tGap = s .«t_gap»;
-      floor = s .floor;
-      t = s .t;
-      next = next .0;
-      micros = ms;
-      links = ls;
-      labels = [];
-      drift = drift.view (s .drift);
-    }
+abbrev pub holds : MicroId → List DbMicro → List Link → Holdings
+holds next ms ls = record { next = next .0; micros = ms; links = ls }
 
 -- with the point, by what the scan found
 abbrev pub microsBy : DbStream → Scan → List Float → List DbMicro
@@ -37,8 +25,11 @@ microsBy s f x = map (cutTo (dimOf s)) (placedAmong f (s .r) (s .lambda) (s .t) 
 abbrev pub gainedBy : DbStream → Scan → List Link
 gainedBy s f = foldl (insert.gainOf (s .lambda) (s .t)) (take (s .«link_count») (s .links)) (insert.pairsOf (take (f .count) (f .ids)))
 
+abbrev pub heldBy : DbStream → Scan → List Float → Holdings
+heldBy s f x = holds (nextAfter f (s .count) (s .«next_id»)) (microsBy s f x) (gainedBy s f)
+
 abbrev pub placedBy : DbStream → Scan → List Float → State
-placedBy s f x = changed s (nextAfter f (s .count) (s .«next_id»)) (microsBy s f x) (gainedBy s f)
+placedBy s f x = taking (view s) (heldBy s f x)
 
 -- the drift distance that the tick is told: "all measured before any changes", from the means as the scan met them
 abbrev pub toldOf : DbStream → Scan → List Float → Nearest

@@ -5,7 +5,7 @@ use lib.ListN.{take}
 use Rattle.feature.specs.Feature.{maxDim}
 use Rattle.drift.specs.Monitor as drift
 use Rattle.model.specs.Outcome as outcome
-use Rattle.model.specs.DbState.{Settings, State}
+use Rattle.model.specs.DbState.{Settings, Params, Holdings, State}
 use Rattle.micro.specs.Held.{held}
 use Rattle.dbstream.specs.declared.DbStream.{DbStream}
 use Rattle.dbstream.specs.declared.opening.Opened.{Opened}
@@ -18,23 +18,24 @@ settings dim r lambda alpha minWeight = record { dim = dim; r = r; lambda = lamb
 abbrev pub dimOf : DbStream → ℕ
 dimOf s = min (s .dim) maxDim
 
-abbrev pub settingsOf : DbStream → Settings
-settingsOf s = settings (dimOf s) (s .r) (s .lambda) (s .alpha) (s .«min_weight»)
-
--- all that is kept, and nothing of the places past a count
-abbrev pub view : DbStream → State
-view s =
+abbrev pub paramsOf : DbStream → Params
+paramsOf s =
     record {
-      settings = settingsOf s;
+      dim = dimOf s;
+      r = s .r;
+      lambda = s .lambda;
+      alpha = s .alpha;
+      minWeight = s .«min_weight»;
       tGap = s .«t_gap»;
       floor = s .floor;
-      t = s .t;
-      next = s .«next_id» .0;
-      micros = held (dimOf s) (s .count) (s .micros);
-      links = take (s .«link_count») (s .links);
-      labels = take (s .«label_count») (s .labels);
-      drift = drift.view (s .drift);
     }
+
+-- all that is kept, and nothing of the places past a count
+abbrev pub heldIn : DbStream → Holdings
+heldIn s = record { next = s .«next_id» .0; micros = held (dimOf s) (s .count) (s .micros); links = take (s .«link_count») (s .links) }
+
+abbrev pub view : DbStream → State
+view s = record { params = paramsOf s; t = s .t; held = heldIn s; labels = take (s .«label_count») (s .labels); drift = drift.view (s .drift) }
 
 -- what an opening tells
 abbrev pub openedTold : Opened → outcome.Opened State

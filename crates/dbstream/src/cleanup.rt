@@ -1,13 +1,14 @@
 // What a cleanup leaves.
 use crate::DbStream;
 ghost use mathlib.Core.Path.{_≡_};
-ghost use Rattle.model.specs.DbInsert.{cleanup};
+ghost use Rattle.model.specs.Stream.{cleanedOf};
+ghost use Rattle.model.specs.Dbstream.{dbstream};
 ghost use Rattle.dbstream.specs.Stream.{view};
 
 impl DbStream {
     // Micro-clusters that faded below the floor go, then links that lost an end or faded below it.
     pub(crate) fn cleaned(mut self) -> Self
-        ensures { λ r. ⌜ view r ≡ cleanup (view self) ⌝ }
+        ensures { λ r. ⌜ view r ≡ cleanedOf dbstream (view self) ⌝ }
     {
         let t = self.t;
         let lambda = self.lambda;

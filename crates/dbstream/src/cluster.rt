@@ -1,7 +1,7 @@
 // Families: strong micro-clusters, joined by dense links.
 use crate::DbStream;
 ghost use mathlib.Core.Path.{_≡_};
-ghost use Rattle.model.specs.DbCluster.{clusterOf};
+ghost use Rattle.model.specs.Dbstream.{clusterOf};
 ghost use Rattle.dbstream.specs.Stream.{view};
 
 impl DbStream {

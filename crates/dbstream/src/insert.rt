@@ -12,7 +12,7 @@ ghost use lib.ListN.{length, take};
 ghost use Rattle.model.specs.Limits.{microsMost};
 ghost use Rattle.model.specs.Answers.{insertionNumber};
 ghost use Rattle.model.specs.Numbers.{insertionNo, insertionSaid};
-ghost use Rattle.model.specs.DbInsert.{tickOf, hasPlace, insertOf};
+ghost use Rattle.model.specs.Dbstream.{tickOf, hasPlace, insertOf};
 ghost use Rattle.dbstream.specs.Stream.{view, insertedTold};
 ghost use Rattle.dbstream.specs.Placed.{placedBy, toldOf};
 
@@ -63,7 +63,8 @@ impl DbStream {
     pub fn try_insert(self, x: &[f64]) -> Inserted
         ensures { λ r. ⌜ insertedTold r ≡ insertOf (view self) (now (x .entry)) ⌝ }
         ensures kept { λ r. ⌜ (insertionNumber (r .answer) ≢ 0 → r .stream ≡ self) ⌝ }
-        ensures said { λ r. ⌜ insertionSaid (r .answer) ≡ insertionNo (view self .settings .dim) (length (now (x .entry))) (self .t) (hasPlace (view self) (now (x .entry))) ⌝ }
+        ensures said { λ r. ⌜ insertionSaid (r .answer)
+            ≡ insertionNo (view self .params .dim) (length (now (x .entry))) (self .t) (hasPlace (view self) (now (x .entry))) ⌝ }
     {
         let dim = lists::cut(self.dim, MAX_DIM);
         let n = self.count;

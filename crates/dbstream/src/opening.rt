@@ -13,7 +13,7 @@ ghost use Prim.Native.Nat.{min};
 ghost use Rattle.feature.specs.Feature.{maxDim};
 ghost use Rattle.model.specs.Answers.{openingNumber};
 ghost use Rattle.model.specs.Numbers.{dbOpeningNo};
-ghost use Rattle.model.specs.DbState.{fresh, openOf};
+ghost use Rattle.model.specs.Dbstream.{fresh, openOf};
 ghost use Rattle.dbstream.specs.Stream.{view, settings, openedTold};
 
 // The answer, and the stream; beside a refusal stands one whose settings are all 0.

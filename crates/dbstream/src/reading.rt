@@ -10,13 +10,13 @@ ghost use Rattle.dbstream.specs.Stream.{view};
 
 impl DbStream {
     pub fn dim(self) -> usize
-        ensures { λ r. ⌜ r ≡ view self .settings .dim ⌝ }
+        ensures { λ r. ⌜ r ≡ view self .params .dim ⌝ }
     {
         lists::cut(self.dim, MAX_DIM)
     }
 
     pub fn micro_count(self) -> usize
-        ensures { λ r. ⌜ r ≡ length (view self .micros) ⌝ }
+        ensures { λ r. ⌜ r ≡ length (view self .held .micros) ⌝ }
     {
         lists::cut(self.count, MICROS)
     }

@@ -3,7 +3,7 @@ use crate::DbStream;
 use drift::Nearest;
 use model::Clock;
 ghost use mathlib.Core.Path.{_≡_};
-ghost use Rattle.model.specs.DbInsert.{tickOf};
+ghost use Rattle.model.specs.Dbstream.{tickOf};
 ghost use Rattle.dbstream.specs.Stream.{view};
 
 impl DbStream {

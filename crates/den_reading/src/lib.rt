@@ -5,7 +5,7 @@ use model::Reading;
 ghost use mathlib.Core.Path.{_≡_};
 ghost use Rattle.model.specs.Answers.{predictionSaid};
 ghost use Rattle.model.specs.ReadOut.{clustersIn};
-ghost use Rattle.model.specs.DenCluster.{predictOf, labelsReadOf, statisticsOf};
+ghost use Rattle.model.specs.Denstream.{predictOf, labelsReadOf, statisticsOf};
 ghost use Rattle.readout.specs.Told.{labelsTold, statisticsTold};
 ghost use Rattle.denstream.specs.View.{view};
 

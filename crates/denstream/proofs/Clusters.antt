@@ -9,7 +9,8 @@ use Rattle.feature.specs.Feature.{maxDim}
 use Rattle.drift.specs.Monitor.{Monitor}
 use Rattle.model.specs.declared.micro.Micro.{Micro}
 use Rattle.model.specs.declared.params.Params.{Params}
-use Rattle.model.specs.DenCluster.{labelsOf, clusterOf}
+use Rattle.model.specs.DenCluster.{labelsOf}
+use Rattle.model.specs.Denstream.{clusterOf}
 use Rattle.pool.specs.Held.{seen}
 use Rattle.placement.specs.Pools.{potentialHeld, stateOf}
 use Rattle.grouping.specs.Group.{labelsIn}

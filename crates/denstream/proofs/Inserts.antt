@@ -1,6 +1,6 @@
 -- The questions of an insert, and its steps, put together to the definition's. Assumes nothing.
 use Prim.Native.Nat.{ℕ}
-use mathlib.Core.Path.{_≡_, sym, ap, ap₂, _∙_, subst}
+use mathlib.Core.Path.{_≡_, sym, _∙_, subst}
 use mathlib.Core.Bool.{Bool, true, cond}
 use mathlib.Core.List.{List}
 use lib.Ieee.{Float}
@@ -8,10 +8,11 @@ use lib.ListN.{length}
 use Rattle.model.specs.declared.answers.Insertion.{Insertion}
 use Rattle.model.specs.Answers.{isDone}
 use Rattle.model.specs.Questions.{insertionAsked}
-use Rattle.model.specs.Outcome.{outcome}
-use Rattle.model.specs.InsertLaws.{taken-asks, inserted-by}
+use Rattle.model.specs.InsertLaws.{taken-asks}
+use Rattle.model.specs.Stream.{taking}
+use Rattle.model.specs.StreamLaws.{inserted-by}
 use Rattle.model.specs.DenState.{State}
-use Rattle.model.specs.DenInsert.{tickOf, takenOf, hasPlace, insertOf}
+use Rattle.model.specs.Denstream.{denstream, tickOf, insertOf}
 use Rattle.pool.specs.Held.{microIn}
 use Rattle.placement.specs.declared.choice.Placement.{Placement}
 use Rattle.placement.specs.Placing.{takes, pooledAt, placementOf, placementTold}
@@ -21,7 +22,7 @@ use Rattle.placement.specs.PlacingLaws.{Placing, placing-law}
 pub record Met (s : State) (x y : List Float) (d : ℕ) (p : Placement) (a : Insertion) : Type 0 where
   pub coordinates : d ≡ s .params .dim
   pub point : length x ≡ d → y ≡ x
-  pub placement : placementTold (s .params .dim) p ≡ placementOf (s .params) (s .t) (s .potential) (s .outliers) y
+  pub placement : placementTold (s .params .dim) p ≡ placementOf (s .params) (s .t) (s .held) y
   pub answer : a ≡ insertionAsked d (length x) (s .t) (takes (p .target))
 
 module _ {s : State} {x y : List Float} {d : ℕ} {p : Placement} {a : Insertion} (m : Met s x y d p a) where
@@ -36,11 +37,9 @@ module _ {s : State} {x y : List Float} {d : ℕ} {p : Placement} {a : Insertion
 
   -- v is what becomes of the stream, by whether the answer is no refusal
   pub inserted :
-      (b : Bool) (v : State) → b ≡ isDone a → v ≡ cond b (tickOf (pooledAt (p .target) (p .place) (microIn (s .params .dim) (p .micro)) s) (p .near)) s →
+      (b : Bool) (v : State) → b ≡ isDone a →
+      v ≡ cond b (tickOf (taking s (pooledAt (p .target) (p .place) (microIn (s .params .dim) (p .micro)) (s .held))) (p .near)) s →
       record { answer = a; stream = v } ≡ insertOf s x
-  unfolding insertOf
   inserted b v eb ev =
-      inserted-by d (length x) (s .t) (takes (p .target)) (hasPlace s x) s (takenOf s x)
-      (tickOf (pooledAt (p .target) (p .place) (microIn (s .params .dim) (p .micro)) s) (p .near)) v a b (λ h. met h .fits) (m .answer) eb ev
-      (λ h q. ap₂ tickOf (met h .placed q) (met h .near))
-      ∙ ap (λ (n : ℕ). outcome (insertionAsked n (length x) (s .t) (hasPlace s x)) s (takenOf s x)) (m .coordinates)
+      inserted-by denstream s x d (takes (p .target)) (pooledAt (p .target) (p .place) (microIn (s .params .dim) (p .micro)) (s .held)) (p .near) a b v
+      (m .coordinates) (λ h. met h .fits) (λ h q. met h .placed q) (λ h. met h .near) (m .answer) eb ev

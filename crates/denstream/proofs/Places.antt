@@ -1,13 +1,13 @@
 -- A point at its target: places that lie in the arrays, and what the stream then is. Assumes nothing.
 use Prim.Native.Nat.{ℕ, _+_, _<_, min}
-use mathlib.Core.Path.{_≡_}
+use mathlib.Core.Path.{_≡_, ap}
 use mathlib.Core.List.{List}
 use lib.ListN.{length, take, set}
 use Rattle.lists.specs.Retain.{without}
 use Rattle.feature.specs.Feature.{maxDim}
-use Rattle.drift.specs.Monitor as monitor
 use Rattle.model.specs.declared.micro.Micro.{Micro}
-use Rattle.model.specs.DenState.{State}
+use Rattle.model.specs.DenState.{Holdings, State}
+use Rattle.model.specs.Stream.{taking}
 use Rattle.pool.specs.declared.pool.Pool.{Pool}
 use Rattle.pool.specs.Held.{held, microIn}
 use Rattle.placement.specs.declared.choice.Target.the-variants.{Potential, Promotion, Outlier, Newborn}
@@ -25,11 +25,14 @@ pub record Counted (s : DenStream) (p : Placement) (np no : ℕ) : Type 0 where
   pub outliers-size : length (s .outliers) ≡ 64
   pub potential-held : np ≡ potentialHeld (s .«potential_count»)
   pub outliers-held : no ≡ outliersHeld (s .«potential_count») (s .«outlier_count»)
-  pub ready : Ready (p .target) (p .place) (view s)
+  pub ready : Ready (p .target) (p .place) (view s .held)
 
--- the document's stream with the point
-abbrev pub pooledIn : DenStream → Placement → State
-pooledIn s p = pooledAt (p .target) (p .place) (microIn (min (s .params .dim) maxDim) (p .micro)) (view s)
+-- what is held with the point, and the document's stream that holds it, before its tick
+abbrev pub pooledIn : DenStream → Placement → Holdings
+pooledIn s p = pooledAt (p .target) (p .place) (microIn (min (s .params .dim) maxDim) (p .micro)) (view s .held)
+
+abbrev pub withPools : DenStream → Holdings → State
+withPools s h = taking (view s) h
 
 -- s over other pools
 abbrev pub over : DenStream → (potential : List Micro) → ℕ → (outliers : List Micro) → ℕ → DenStream
@@ -49,38 +52,56 @@ over s a n b k =
 module _ {s : DenStream} {p : Placement} {np no : ℕ} (c : Counted s p np no) where
   pub potential-low : p .target ≡ Potential → p .place < 64
   unfolding view
-  potential-low e = laws.potential-low (s .params) (s .t) (s .potential) (s .«potential_count») (s .outliers) (s .«outlier_count») _ _ (p .target) (p .place) (p .micro) (c .ready) e (c .potential-size)
+  potential-low e =
+      laws.potential-low (min (s .params .dim) maxDim) (s .potential) (s .«potential_count») (s .outliers) (s .«outlier_count») (p .target) (p .place)
+      (p .micro) (c .ready) e (c .potential-size)
 
   pub outlier-low : p .target ≡ Outlier → p .place < 64
   unfolding view
-  outlier-low e = laws.outlier-low (s .params) (s .t) (s .potential) (s .«potential_count») (s .outliers) (s .«outlier_count») _ _ (p .target) (p .place) (p .micro) (c .ready) e (c .outliers-size)
+  outlier-low e =
+      laws.outlier-low (min (s .params .dim) maxDim) (s .potential) (s .«potential_count») (s .outliers) (s .«outlier_count») (p .target) (p .place)
+      (p .micro) (c .ready) e (c .outliers-size)
 
   pub promotion-low : p .target ≡ Promotion → np < 64
   unfolding view
-  promotion-low e = laws.promotion-low (s .params) (s .t) (s .potential) (s .«potential_count») (s .outliers) (s .«outlier_count») _ _ (c .potential-size) (c .outliers-size) np (c .potential-held) no (c .outliers-held) (p .target) (p .place) (p .micro) (c .ready) e
+  promotion-low e =
+      laws.promotion-low (min (s .params .dim) maxDim) (s .potential) (s .«potential_count») (s .outliers) (s .«outlier_count») (c .potential-size)
+      (c .outliers-size) np (c .potential-held) no (c .outliers-held) (p .target) (p .place) (p .micro) (c .ready) e
 
   pub newborn-low : p .target ≡ Newborn → np + no < 64
   unfolding view
-  newborn-low e = laws.newborn-low (s .params) (s .t) (s .potential) (s .«potential_count») (s .outliers) (s .«outlier_count») _ _ (c .potential-size) (c .outliers-size) np (c .potential-held) no (c .outliers-held) (p .target) (p .place) (p .micro) (c .ready) e
+  newborn-low e =
+      laws.newborn-low (min (s .params .dim) maxDim) (s .potential) (s .«potential_count») (s .outliers) (s .«outlier_count») (c .potential-size)
+      (c .outliers-size) np (c .potential-held) no (c .outliers-held) (p .target) (p .place) (p .micro) (c .ready) e
 
-  pub to-potential : p .target ≡ Potential → view (cleared (over s (set (s .potential) (p .place) (p .micro)) (s .«potential_count») (s .outliers) (s .«outlier_count»))) ≡ pooledIn s p
+  pub to-potential :
+      p .target ≡ Potential → view (cleared (over s (set (s .potential) (p .place) (p .micro)) (s .«potential_count») (s .outliers) (s .«outlier_count»)))
+      ≡ withPools s (pooledIn s p)
   unfolding view
   to-potential e =
-      laws.potential-absorbs (s .params) (s .t) (s .potential) (s .«potential_count») (s .outliers) (s .«outlier_count») (take (s .«label_count») (s .labels)) (monitor.view (s .drift)) (p .target) (p .place) (p .micro) e
+      ap (withPools s) (laws.potential-absorbs (min (s .params .dim) maxDim) (s .potential) (s .«potential_count») (s .outliers) (s .«outlier_count»)
+      (p .target) (p .place) (p .micro) e)
 
-  pub to-outlier : p .target ≡ Outlier → view (cleared (over s (s .potential) (s .«potential_count») (set (s .outliers) (p .place) (p .micro)) (s .«outlier_count»))) ≡ pooledIn s p
+  pub to-outlier :
+      p .target ≡ Outlier → view (cleared (over s (s .potential) (s .«potential_count») (set (s .outliers) (p .place) (p .micro)) (s .«outlier_count»)))
+      ≡ withPools s (pooledIn s p)
   unfolding view
   to-outlier e =
-      laws.outlier-absorbs (s .params) (s .t) (s .potential) (s .«potential_count») (s .outliers) (s .«outlier_count») (take (s .«label_count») (s .labels)) (monitor.view (s .drift)) (p .target) (p .place) (p .micro) e
+      ap (withPools s) (laws.outlier-absorbs (min (s .params .dim) maxDim) (s .potential) (s .«potential_count») (s .outliers) (s .«outlier_count»)
+      (p .target) (p .place) (p .micro) e)
 
   pub to-promotion :
       p .target ≡ Promotion → (rest : Pool) → held rest ≡ without (p .place) (take no (s .outliers)) → rest .count ≡ length (held rest) →
-      view (cleared (over s (set (s .potential) np (p .micro)) (np + 1) (rest .micros) (rest .count))) ≡ pooledIn s p
+      view (cleared (over s (set (s .potential) np (p .micro)) (np + 1) (rest .micros) (rest .count))) ≡ withPools s (pooledIn s p)
   unfolding view
-  to-promotion e =
-      laws.promotes (s .params) (s .t) (s .potential) (s .«potential_count») (s .outliers) (s .«outlier_count») (take (s .«label_count») (s .labels)) (monitor.view (s .drift)) (c .potential-size) (c .outliers-size) np (c .potential-held) no (c .outliers-held) (p .target) (p .place) (p .micro) (c .ready) e
+  to-promotion e rest el cl =
+      ap (withPools s) (laws.promotes (min (s .params .dim) maxDim) (s .potential) (s .«potential_count») (s .outliers) (s .«outlier_count»)
+      (c .potential-size) (c .outliers-size) np (c .potential-held) no (c .outliers-held) (p .target) (p .place) (p .micro) (c .ready) e rest el cl)
 
-  pub to-newborn : p .target ≡ Newborn → view (cleared (over s (s .potential) (s .«potential_count») (set (s .outliers) no (p .micro)) (no + 1))) ≡ pooledIn s p
+  pub to-newborn :
+      p .target ≡ Newborn → view (cleared (over s (s .potential) (s .«potential_count») (set (s .outliers) no (p .micro)) (no + 1)))
+      ≡ withPools s (pooledIn s p)
   unfolding view
   to-newborn e =
-      laws.comes (s .params) (s .t) (s .potential) (s .«potential_count») (s .outliers) (s .«outlier_count») (take (s .«label_count») (s .labels)) (monitor.view (s .drift)) (c .potential-size) (c .outliers-size) np (c .potential-held) no (c .outliers-held) (p .target) (p .place) (p .micro) (c .ready) e
+      ap (withPools s) (laws.comes (min (s .params .dim) maxDim) (s .potential) (s .«potential_count») (s .outliers) (s .«outlier_count») (c .potential-size)
+      (c .outliers-size) np (c .potential-held) no (c .outliers-held) (p .target) (p .place) (p .micro) (c .ready) e)

@@ -1,7 +1,7 @@
 -- The stream that an insert leaves, from what the clock and the pruning give. Assumes nothing.
 use Prim.Native.Nat.{ℕ}
 use mathlib.Core.Path.{_≡_, sym, ap, _∙_}
-use mathlib.Core.Bool.{Bool, true, false, cond}
+use mathlib.Core.Bool.{Bool, true, false}
 use lib.Ieee.{Float}
 use Rattle.float.specs.Rounded.{_⊕_, one}
 use Rattle.drift.specs.declared.Nearest.{Nearest}
@@ -10,7 +10,9 @@ use Rattle.model.specs.declared.clock.Ticked.{Ticked}
 use Rattle.model.specs.Fading.{isMultiple}
 use Rattle.model.specs.Ticking.{Tick, tickTold, tickedOf}
 use Rattle.model.specs.DenState.{State}
-use Rattle.model.specs.DenInsert.{pruned, advanced, tickOf}
+use Rattle.model.specs.Stream.{advanced, cleanedOf}
+use Rattle.model.specs.StreamLaws as laws
+use Rattle.model.specs.Denstream.{denstream, tickOf}
 use Rattle.placement.specs.Pools.{stateOf}
 use Rattle.denstream.specs.declared.stream.DenStream.{DenStream}
 use Rattle.denstream.specs.View.{view}
@@ -49,9 +51,7 @@ module _ (s : DenStream) (near : Nearest) (r : Ticked)
   due-is b e = sym (ap (λ (q : Tick). q .due) told) ∙ e
 
   pub tick-still : r .due ≡ false → view later ≡ tickOf (view s) near
-  unfolding tickOf
-  tick-still e = advanced-is ∙ sym (ap (λ (b : Bool). cond b (pruned (advanced (view s) near)) (advanced (view s) near)) (due-is false e))
+  tick-still e = advanced-is ∙ laws.tick-still denstream (view s) near (due-is false e)
 
-  pub tick-prunes : (v : State) → r .due ≡ true → v ≡ pruned (view later) → v ≡ tickOf (view s) near
-  unfolding tickOf
-  tick-prunes v e h = h ∙ ap pruned advanced-is ∙ sym (ap (λ (b : Bool). cond b (pruned (advanced (view s) near)) (advanced (view s) near)) (due-is true e))
+  pub tick-prunes : (v : State) → r .due ≡ true → v ≡ cleanedOf denstream (view later) → v ≡ tickOf (view s) near
+  tick-prunes v e h = h ∙ ap (cleanedOf denstream) advanced-is ∙ laws.tick-cleans denstream (view s) near (due-is true e)

@@ -1,7 +1,7 @@
 // The labels of the potential micro-clusters.
 use crate::stream::DenStream;
 ghost use mathlib.Core.Path.{_≡_};
-ghost use Rattle.model.specs.DenCluster.{clusterOf};
+ghost use Rattle.model.specs.Denstream.{clusterOf};
 ghost use Rattle.denstream.specs.View.{view};
 
 impl DenStream {

@@ -10,7 +10,8 @@ ghost use mathlib.Core.Bool.{true, false, cond};
 ghost use lib.ListN.{length};
 ghost use Rattle.model.specs.Answers.{insertionNumber};
 ghost use Rattle.model.specs.Numbers.{insertionNo, insertionSaid};
-ghost use Rattle.model.specs.DenInsert.{tickOf, hasPlace, insertOf};
+ghost use Rattle.model.specs.Stream.{taking};
+ghost use Rattle.model.specs.Denstream.{tickOf, hasPlace, insertOf};
 ghost use Rattle.pool.specs.Held.{microIn};
 ghost use Rattle.placement.specs.Placing.{takes, pooledAt, Ready};
 ghost use Rattle.denstream.specs.View.{view, told};
@@ -24,9 +25,11 @@ impl DenStream {
     // Unless the point is refused, its micro-cluster goes to its target, the labels are cleared and the clock ticks.
     // A refused stream goes this way too, which saves a copy of the stream.
     fn taken(mut self, done: bool, p: Placement) -> Self
-        requires { ⌜ Ready (p .target) (p .place) (view self) ⌝ }
+        requires { ⌜ Ready (p .target) (p .place) (view self .held) ⌝ }
         requires placed { ⌜ (done ≡ true → takes (p .target) ≡ true) ⌝ }
-        ensures { λ r. ⌜ view r ≡ cond done (tickOf (pooledAt (p .target) (p .place) (microIn (view self .params .dim) (p .micro)) (view self)) (p .near)) (view self) ⌝ }
+        ensures { λ r. ⌜ view r ≡ cond done
+            (tickOf (taking (view self) (pooledAt (p .target) (p .place) (microIn (view self .params .dim) (p .micro)) (view self .held))) (p .near))
+            (view self) ⌝ }
         ensures kept { λ r. ⌜ (done ≡ false → r ≡ self) ⌝ }
     {
         if !done {

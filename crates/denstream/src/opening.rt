@@ -11,8 +11,8 @@ ghost use mathlib.Core.Path.{_≡_};
 ghost use Rattle.feature.specs.Feature.{maxDim};
 ghost use Rattle.model.specs.Answers.{openingNumber};
 ghost use Rattle.model.specs.Numbers.{denOpeningNo};
-ghost use Rattle.model.specs.DenState.{openOf};
-ghost use Rattle.model.specs.DenState as doc;
+ghost use Rattle.model.specs.Denstream.{openOf};
+ghost use Rattle.model.specs.Denstream as doc;
 ghost use Rattle.denstream.specs.View.{view, openedTold};
 
 // The answer; beside a refusal stands a stream of zeros.

@@ -1,13 +1,14 @@
 // What a pruning leaves.
 use crate::stream::DenStream;
 ghost use mathlib.Core.Path.{_≡_};
-ghost use Rattle.model.specs.DenInsert.{pruned};
+ghost use Rattle.model.specs.Stream.{cleanedOf};
+ghost use Rattle.model.specs.Denstream.{denstream};
 ghost use Rattle.denstream.specs.View.{view};
 
 impl DenStream {
     // Potential micro-clusters that faded below bm go, and outliers that weigh less than their age asks for.
     pub(crate) fn pruned(mut self) -> Self
-        ensures { λ r. ⌜ view r ≡ pruned (view self) ⌝ }
+        ensures { λ r. ⌜ view r ≡ cleanedOf denstream (view self) ⌝ }
     {
         let t = self.t;
         let params = self.params;

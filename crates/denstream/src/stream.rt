@@ -40,7 +40,7 @@ impl DenStream {
 
     // How many potential micro-clusters are held.
     pub fn potential_count(self) -> usize
-        ensures { λ r. ⌜ r ≡ length (view self .potential) ⌝ }
+        ensures { λ r. ⌜ r ≡ length (view self .held .potential) ⌝ }
     {
         placement::potential_held(self.potential_count)
     }

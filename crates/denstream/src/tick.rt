@@ -3,7 +3,7 @@ use crate::stream::DenStream;
 use drift::Nearest;
 use model::Clock;
 ghost use mathlib.Core.Path.{_≡_};
-ghost use Rattle.model.specs.DenInsert.{tickOf};
+ghost use Rattle.model.specs.Denstream.{tickOf};
 ghost use Rattle.denstream.specs.View.{view};
 
 impl DenStream {

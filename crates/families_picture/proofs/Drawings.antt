@@ -8,7 +8,7 @@ use Rattle.drift.specs.declared.DriftReport.{DriftReport}
 use Rattle.drift.specs.Monitor.{reportOf}
 use Rattle.model.specs.ReadOut.{LabelsRead, Statistics}
 use Rattle.model.specs.DbState.{State}
-use Rattle.model.specs.DbCluster.{clusterOf, labelsReadOf}
+use Rattle.model.specs.Dbstream.{clusterOf, labelsReadOf}
 use Rattle.picture_text.specs.Picture.{pageOf}
 use Rattle.families_picture.specs.Picture.{figuresOf, drawnOf}
 
@@ -19,13 +19,14 @@ abbrev read : State → LabelsRead
 read s = labelsReadOf s (replicate 64 (negsuc 0))
 
 pub drawing :
-    (s u : State) (n : ℕ) (figures : Statistics) (labels : LabelsRead) (report : DriftReport) → u ≡ clusterOf s → n ≡ length (u .micros) → figures ≡ figuresOf u →
+    (s u : State) (n : ℕ) (figures : Statistics) (labels : LabelsRead) (report : DriftReport) → u ≡ clusterOf s → n ≡ length (u .held .micros) →
+    figures ≡ figuresOf u →
     labels ≡ labelsReadOf u (replicate 64 (negsuc 0)) → report ≡ reportOf (u .drift) →
     pageOf (min n 64) (figures .centres) (figures .weights) (labels .labels) (report .alarms) ≡ drawnOf s
 unfolding drawnOf
 drawing s u n figures labels report e count stats told drift =
     ap (λ (k : ℕ). page k figures labels report) count
-    ∙ ap (λ (f : Statistics). page (length (u .micros)) f labels report) stats
-    ∙ ap (λ (l : LabelsRead). page (length (u .micros)) (figuresOf u) l report) told
-    ∙ ap (page (length (u .micros)) (figuresOf u) (read u)) drift
-    ∙ ap (λ (v : State). page (length (v .micros)) (figuresOf v) (read v) (reportOf (v .drift))) e
+    ∙ ap (λ (f : Statistics). page (length (u .held .micros)) f labels report) stats
+    ∙ ap (λ (l : LabelsRead). page (length (u .held .micros)) (figuresOf u) l report) told
+    ∙ ap (page (length (u .held .micros)) (figuresOf u) (read u)) drift
+    ∙ ap (λ (v : State). page (length (v .held .micros)) (figuresOf v) (read v) (reportOf (v .drift))) e

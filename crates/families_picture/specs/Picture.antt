@@ -9,7 +9,7 @@ use Rattle.float.specs.Rounded.{nought}
 use Rattle.drift.specs.Monitor.{reportOf}
 use Rattle.model.specs.ReadOut.{Statistics}
 use Rattle.model.specs.DbState.{State}
-use Rattle.model.specs.DbCluster.{clusterOf, labelsReadOf, statisticsOf}
+use Rattle.model.specs.Dbstream.{clusterOf, labelsReadOf, statisticsOf}
 use Rattle.families_lines.specs.Ascii.{ascii}
 use Rattle.families_lines.specs.Text.{refusedLine}
 use Rattle.families_session.specs.Session.{Ran, ranOf}
@@ -22,13 +22,13 @@ figuresOf s = statisticsOf s (replicate 192 nought) (replicate 64 nought) (repli
 -- the families after cluster, their figures, and the alarms
 unfoldable pub drawnOf : State → List ℕ
 drawnOf s =
-    pageOf (min (length (s .micros)) 64) (figuresOf (clusterOf s) .centres) (figuresOf (clusterOf s) .weights)
+    pageOf (min (length (s .held .micros)) 64) (figuresOf (clusterOf s) .centres) (figuresOf (clusterOf s) .weights)
     (labelsReadOf (clusterOf s) (replicate 64 (negsuc 0)) .labels)
     (reportOf (s .drift) .alarms)
 
 -- three figures a reading, or no picture
 abbrev pub dimText : State → List ℕ
-dimText s = cond (eqb (s .settings .dim) 3) (drawnOf s) (ascii "a picture needs dim 3\n")
+dimText s = cond (eqb (s .params .dim) 3) (drawnOf s) (ascii "a picture needs dim 3\n")
 
 abbrev pub ranText : Ran → List ℕ
 ranText r = cond (eqb (r .number) 0) (dimText (r .stream)) (refusedLine (r .number))

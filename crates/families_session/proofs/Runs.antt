@@ -12,7 +12,7 @@ use Rattle.model.specs.declared.answers.Insertion.the-variants.{Done}
 use Rattle.model.specs.Answers.{insertionNumber, isDone}
 use Rattle.model.specs.Outcome.{Outcome}
 use Rattle.model.specs.DbState.{State}
-use Rattle.model.specs.DbInsert.{insertOf}
+use Rattle.model.specs.Dbstream.{insertOf}
 use Rattle.families_session.specs.Input.{doublesFrom, pointsFrom}
 use Rattle.families_session.specs.Session.{insertAll}
 

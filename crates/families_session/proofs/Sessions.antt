@@ -12,13 +12,15 @@ use Rattle.model.specs.declared.answers.Opening.the-variants.{Open, Dim, Radius
 use Rattle.model.specs.Answers.{openingNumber, isOpen}
 use Rattle.model.specs.Questions.{dimInRange, positive, lambdaInRange, shareInRange, firstNo}
 use Rattle.model.specs.Outcome.{Opened, Outcome}
-use Rattle.model.specs.DbState.{Settings, State, asked, openOf}
+use Rattle.model.specs.Stream as stream
+use Rattle.model.specs.DbState.{Settings, State}
+use Rattle.model.specs.Dbstream.{asked, openOf}
 use Rattle.families_session.specs.Input.{settingsIn, pointsIn, isWhole}
 use Rattle.families_session.specs.Session.{Ran, ran, insertAll, insertedRan, openedRan, ranOf}
 
 -- an opening that is accepted has dim in range
 pub open-dim : (p : Settings) (o : Opened State) → o ≡ openOf p → isOpen (o .answer) ≡ true → dimInRange (p .dim) ≡ true
-unfolding asked
+unfolding stream.asked
 open-dim p o e h = go (dimInRange (p .dim)) (sym (ap (λ (q : Opened State). isOpen (q .answer)) e) ∙ h)
   where
     rest : Opening

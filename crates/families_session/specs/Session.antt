@@ -6,13 +6,14 @@ use lib.Ieee.{Float}
 use Rattle.model.specs.declared.answers.Insertion.the-variants.{Done}
 use Rattle.model.specs.Answers.{openingNumber, isOpen, insertionNumber, isDone}
 use Rattle.model.specs.Outcome.{Opened, Outcome}
-use Rattle.model.specs.DbState.{State, openOf}
-use Rattle.model.specs.DbInsert.{insertOf}
+use Rattle.model.specs.Stream.{insertBy}
+use Rattle.model.specs.DbState.{State}
+use Rattle.model.specs.Dbstream.{openOf, insertOf}
 use Rattle.families_session.specs.Input.{settingsIn, pointsIn, isWhole}
 
 -- "stops at the first refusal, an insert's included"
 unfoldable pub insertAll : State → List (List Float) → Outcome State
-unfolding insertOf
+unfolding insertBy
 insertAll s [] = record { answer = Done; stream = s }
 insertAll s (x ∷ xs) = cond (isDone (insertOf s x .answer)) (insertAll (insertOf s x .stream) xs) (insertOf s x)
 

@@ -11,7 +11,7 @@ use words::word_at;
 ghost use mathlib.Core.Path.{_≡_};
 ghost use Prim.Native.Nat.{_-_, _*_, _/_, _≤_};
 ghost use lib.ListN.{length};
-ghost use Rattle.model.specs.DbState.{openOf};
+ghost use Rattle.model.specs.Dbstream.{openOf};
 ghost use Rattle.dbstream.specs.Stream.{view, openedTold, insertedTold};
 ghost use Rattle.families_session.specs.Input.{headSize, settingsIn, pointsFrom};
 ghost use Rattle.families_session.specs.Session.{insertAll};

@@ -22,18 +22,21 @@ use Rattle.model.specs.Families.{labelsBy}
 use Rattle.model.specs.ReadOut.{LabelsRead, labelsRead, written}
 use Rattle.model.specs.DbState.{State}
 use Rattle.model.specs.DbInsert.{idOf}
-use Rattle.model.specs.DbCluster.{isStrong, strongOnes, joinsOf, labelsOf, clusterOf, labelsReadOf}
+use Rattle.model.specs.DbCluster.{isStrong, strongOnes, joinsOf, labelsOf}
+use Rattle.model.specs.Dbstream.{clusterOf, labelsReadOf}
 use Rattle.readout.specs.Told.{labelsTold}
 use Rattle.families_lines.specs.Text.{linesOf, lastLine}
 use Rattle.families_text.specs.Families.{clusterText}
 
-pub few-ids : (s : State) (n : ℕ) (ids : List MicroId) → length ids ≡ 64 → n ≡ length (s .micros) → take (length (s .micros)) ids ≡ map idOf (s .micros) → n ≤ 64
-few-ids s n ids l c e = omega (arith, ap length e, map-length idOf (s .micros), length-take (length (s .micros)) ids)
+pub few-ids :
+    (s : State) (n : ℕ) (ids : List MicroId) → length ids ≡ 64 → n ≡ length (s .held .micros) →
+    take (length (s .held .micros)) ids ≡ map idOf (s .held .micros) → n ≤ 64
+few-ids s n ids l c e = omega (arith, ap length e, map-length idOf (s .held .micros), length-take (length (s .held .micros)) ids)
 
 -- the creation numbers of an array's micro-clusters are the view's
 pub ids-are :
-    (s : DbStream) (n : ℕ) (ids : List MicroId) → n ≡ length (view s .micros) → length (s .micros) ≡ 64 → take n ids ≡ map idOf (take n (s .micros)) →
-    take (length (view s .micros)) ids ≡ map idOf (view s .micros)
+    (s : DbStream) (n : ℕ) (ids : List MicroId) → n ≡ length (view s .held .micros) → length (s .micros) ≡ 64 → take n ids ≡ map idOf (take n (s .micros)) →
+    take (length (view s .held .micros)) ids ≡ map idOf (view s .held .micros)
 ids-are s n ids c l e =
     let k : n ≡ min (s .count) 64 = c ∙ map-length (cutTo (dimOf s)) (take (s .count) (s .micros)) ∙ length-take (s .count) (s .micros) ∙ ap (min (s .count)) l in
     ap (λ (i : ℕ). take i ids) (sym c)
@@ -42,12 +45,12 @@ ids-are s n ids c l e =
     ∙ sym (map-map idOf (cutTo (dimOf s)) (take (s .count) (s .micros)))
 
 -- one label for each
-label-count : (s : State) → length (s .micros) ≤ 64 → length (labelsOf s) ≡ length (s .micros)
+label-count : (s : State) → length (s .held .micros) ≤ 64 → length (labelsOf s) ≡ length (s .held .micros)
 unfolding labelsOf labelsBy
 label-count s h =
-    let e : length (strongOnes s) ≡ length (s .micros) = map-length (isStrong s) (s .micros) in
+    let e : length (strongOnes s) ≡ length (s .held .micros) = map-length (isStrong s) (s .held .micros) in
     let k : length (strongOnes s) ≤ 64 = omega arith in
-    labels-tell (length (strongOnes s)) k (joinsOf s (s .links)) (strongOnes s) (refl) .count ∙ e
+    labels-tell (length (strongOnes s)) k (joinsOf s (s .held .links)) (strongOnes s) (refl) .count ∙ e
 
 labels-read : (due lent labels : List ℤ) (answer : Reading) → length due ≤ length lent → labelsTold answer labels ≡ labelsRead due lent → take (length due) labels ≡ due
 labels-read due lent labels answer h e =
@@ -57,8 +60,8 @@ labels-read due lent labels answer h e =
 
 -- what is read out of a stream
 pub record Reads (s : State) (n : ℕ) (ids : List MicroId) (answer : Reading) (labels lent : List ℤ) (report : DriftReport) : Type 0 where
-  pub count : n ≡ length (s .micros)
-  pub names : take (length (s .micros)) ids ≡ map idOf (s .micros)
+  pub count : n ≡ length (s .held .micros)
+  pub names : take (length (s .held .micros)) ids ≡ map idOf (s .held .micros)
   pub told : labelsTold answer labels ≡ labelsReadOf s lent
   pub drift : report ≡ reportOf (s .drift)
 
@@ -70,8 +73,8 @@ text-is s u n ids answer labels lent report l k e r = go (subst (λ (v : State).
     go : Reads (clusterOf s) n ids answer labels lent report → linesOf (take n ids) (take n labels) ++ lastLine report ≡ clusterText s
     go q =
         let f : n ≤ 64 = few-ids (clusterOf s) n ids l (q .count) (q .names) in
-        let c : length (labelsOf s) ≡ length (s .micros) = label-count s (omega (arith, q .count)) in
-        let a : take n ids ≡ map idOf (s .micros) = ap (λ (i : ℕ). take i ids) (q .count) ∙ q .names in
+        let c : length (labelsOf s) ≡ length (s .held .micros) = label-count s (omega (arith, q .count)) in
+        let a : take n ids ≡ map idOf (s .held .micros) = ap (λ (i : ℕ). take i ids) (q .count) ∙ q .names in
         let b : take n labels ≡ labelsOf s =
         ap (λ (i : ℕ). take i labels) (q .count ∙ sym c) ∙ labels-read (labelsOf s) lent labels answer (omega (arith, q .count)) (q .told)
         in

@@ -6,13 +6,14 @@ use lib.Dec.{eqb}
 use Rattle.drift.specs.Monitor.{reportOf}
 use Rattle.model.specs.DbState.{State}
 use Rattle.model.specs.DbInsert.{idOf}
-use Rattle.model.specs.DbCluster.{labelsOf, clusterOf}
+use Rattle.model.specs.DbCluster.{labelsOf}
+use Rattle.model.specs.Dbstream.{clusterOf}
 use Rattle.families_lines.specs.Text.{linesOf, lastLine, refusedLine}
 use Rattle.families_session.specs.Session.{ranOf}
 
 -- "after cluster it prints one line per micro-cluster in list order .. then a last line"
 abbrev pub clusterText : State → List ℕ
-clusterText s = linesOf (map idOf (s .micros)) (clusterOf s .labels) ++ lastLine (reportOf (s .drift))
+clusterText s = linesOf (map idOf (s .held .micros)) (clusterOf s .labels) ++ lastLine (reportOf (s .drift))
 
 -- "and then prints only the line `refused`, a space and the number"
 unfoldable pub familiesText : List ℕ → List ℕ

@@ -21,12 +21,14 @@ place-view (m ∷ ms) id = ap (λ (q : ℕ). cond (eqb (m .id .0) (id .0)) 0 (su
 
 pub joined-view :
     (s : State) (ls : List Link) →
-    joinedBy (map idOf (s .micros)) (strongOnes s) (s .settings .lambda) (s .t) (s .settings .alpha ⊗ s .settings .minWeight) ls ≡ joinsOf s ls
+    joinedBy (map idOf (s .held .micros)) (strongOnes s) (s .params .lambda) (s .t) (s .params .alpha ⊗ s .params .minWeight) ls ≡ joinsOf s ls
 unfolding joinedBy joinsOf
 joined-view s [] = refl
 joined-view s (l ∷ ls) =
-    ap (λ (ps : List (ℕ × ℕ)). cond (joinsBy ids (strongOnes s) (s .settings .lambda) (s .t) (s .settings .alpha ⊗ s .settings .minWeight) l) ((placeAmong ids (l .lo), placeAmong ids (l .hi)) ∷ ps) ps) (joined-view s ls)
-    ∙ ap₂ (λ (x y : ℕ). cond (getD (strongOnes s) x false && getD (strongOnes s) y false && isDense s l) ((x, y) ∷ joinsOf s ls) (joinsOf s ls)) (place-view (s .micros) (l .lo)) (place-view (s .micros) (l .hi))
+    ap (λ (ps : List (ℕ × ℕ)). cond (joinsBy ids (strongOnes s) (s .params .lambda) (s .t) (s .params .alpha ⊗ s .params .minWeight) l)
+    ((placeAmong ids (l .lo), placeAmong ids (l .hi)) ∷ ps) ps) (joined-view s ls)
+    ∙ ap₂ (λ (x y : ℕ). cond (getD (strongOnes s) x false && getD (strongOnes s) y false && isDense s l) ((x, y) ∷ joinsOf s ls) (joinsOf s ls))
+    (place-view (s .held .micros) (l .lo)) (place-view (s .held .micros) (l .hi))
   where
     ids : List MicroId
-    ids = map idOf (s .micros)
+    ids = map idOf (s .held .micros)

@@ -1,4 +1,4 @@
--- Document 01, Families: DBSTREAM's labels; its read-outs. Definitions only.
+-- Document 01, Families: DBSTREAM's labels; connectivity. Definitions only.
 use Prim.Native.Nat.{ℕ, suc}
 use mathlib.Core.Bool.{Bool, false, not, _&&_, cond}
 use mathlib.Core.List.{List, [], _∷_, map}
@@ -7,15 +7,12 @@ use lib.IntN.{ℤ}
 use lib.ListN.{getD}
 use lib.Ieee.{Float, le}
 use Rattle.float.specs.Rounded.{_⊕_, _⊗_, _⊘_, nought, two}
-use Rattle.feature.specs.declared.spherical.Spherical.{Spherical}
 use Rattle.model.specs.declared.micro.MicroId.{MicroId}
 use Rattle.model.specs.declared.micro.DbMicro.{DbMicro}
 use Rattle.model.specs.declared.link.Link.{Link}
 use Rattle.model.specs.Answers.{Said, gives, refuses}
 use Rattle.model.specs.Questions.{firstNo}
 use Rattle.model.specs.Families.{labelsBy}
-use Rattle.model.specs.ReadOut as read
-use Rattle.model.specs.ReadOut.{LabelsRead, Statistics, labelsRead, statisticsRead}
 use Rattle.model.specs.DbState.{State}
 use Rattle.model.specs.DbInsert.{fadedWeight, fadedLink, pairOf, absent, sameEnds, isHeld}
 
@@ -26,10 +23,10 @@ placeOf (m ∷ rest) id = cond (eqb (m .id .0) (id .0)) 0 (suc (placeOf rest id)
 
 -- "strong means faded weight ≥ min_weight"
 abbrev pub isStrong : State → DbMicro → Bool
-isStrong s m = le (s .settings .minWeight) (fadedWeight (s .settings .lambda) (s .t) m)
+isStrong s m = le (s .params .minWeight) (fadedWeight (s .params .lambda) (s .t) m)
 
 abbrev pub strongOnes : State → List Bool
-strongOnes s = map (isStrong s) (s .micros)
+strongOnes s = map (isStrong s) (s .held .micros)
 
 -- of the micro-cluster at a place; no place past the list is strong
 abbrev pub strongAt : State → ℕ → Bool
@@ -37,10 +34,10 @@ strongAt s i = getD (strongOnes s) i false
 
 -- "a faded link ≥ alpha×min_weight"
 abbrev pub isDense : State → Link → Bool
-isDense s l = le (s .settings .alpha ⊗ s .settings .minWeight) (fadedLink (s .settings .lambda) (s .t) l)
+isDense s l = le (s .params .alpha ⊗ s .params .minWeight) (fadedLink (s .params .lambda) (s .t) l)
 
 abbrev pub endsOf : State → Link → ℕ × ℕ
-endsOf s l = (placeOf (s .micros) (l .lo), placeOf (s .micros) (l .hi))
+endsOf s l = (placeOf (s .held .micros) (l .lo), placeOf (s .held .micros) (l .hi))
 
 -- "strong ends are joined by a faded link ≥ alpha×min_weight"
 abbrev pub joins : State → Link → Bool
@@ -52,34 +49,7 @@ joinsOf s (l ∷ rest) = cond (joins s l) (endsOf s l ∷ joinsOf s rest) (joins
 
 unfoldable pub labelsOf : State → List ℤ
 unfolding labelsBy joinsOf placeOf
-labelsOf s = labelsBy (strongOnes s) (joinsOf s (s .links))
-
-abbrev pub clusterOf : State → State
-clusterOf s =
-    record {
-      settings = s .settings;
-      tGap = s .tGap;
-      floor = s .floor;
-      t = s .t;
-      next = s .next;
-      micros = s .micros;
-      links = s .links;
-      labels = labelsOf s;
-      drift = s .drift;
-    }
-
--- ---- read-outs
-abbrev pub featuresOf : State → List Spherical
-featuresOf s = map (λ (m : DbMicro). m .cf) (s .micros)
-
-abbrev pub predictOf : State → List Float → Said ℤ
-predictOf s x = read.predictOf (s .settings .dim) (s .settings .r ⊗ s .settings .r) (featuresOf s) (s .labels) x
-
-abbrev pub labelsReadOf : State → (lent : List ℤ) → LabelsRead
-labelsReadOf s lent = labelsRead (s .labels) lent
-
-abbrev pub statisticsOf : State → (centres weights radii : List Float) → Statistics
-statisticsOf s = statisticsRead (featuresOf s) (map (fadedWeight (s .settings .lambda) (s .t)) (s .micros))
+labelsOf s = labelsBy (strongOnes s) (joinsOf s (s .held .links))
 
 -- ---- connectivity
 -- what f says of the link with k's ends, "0 without a link"
@@ -96,6 +66,6 @@ storedWeight (m ∷ rest) id = cond (eqb (m .id .0) (id .0)) (m .cf .w) (storedW
 unfoldable pub connectivityOf : State → (a b : MicroId) → Said Float
 unfolding ofLink storedWeight
 connectivityOf s a b =
-    let mean : Float = (storedWeight (s .micros) a ⊕ storedWeight (s .micros) b) ⊘ two in
-    firstNo ((isHeld (s .micros) a && isHeld (s .micros) b && not (eqb (a .0) (b .0)), refuses 12 []) ∷ [])
-    (gives (ofLink (λ (l : Link). fadedLink (s .settings .lambda) (s .t) l ⊘ mean) (absent (pairOf a b .0) (pairOf a b .1) (s .t)) (s .links)))
+    let mean : Float = (storedWeight (s .held .micros) a ⊕ storedWeight (s .held .micros) b) ⊘ two in
+    firstNo ((isHeld (s .held .micros) a && isHeld (s .held .micros) b && not (eqb (a .0) (b .0)), refuses 12 []) ∷ [])
+    (gives (ofLink (λ (l : Link). fadedLink (s .params .lambda) (s .t) l ⊘ mean) (absent (pairOf a b .0) (pairOf a b .1) (s .t)) (s .held .links)))

@@ -1,4 +1,4 @@
--- Document 01, DBSTREAM: insert, tick and cleanup. Definitions only.
+-- Document 01, DBSTREAM: what a point and a cleanup do to what is held. Definitions only.
 use Prim.Native.Nat.{ℕ, _+_, _%_, _^_}
 use mathlib.Core.Bool.{Bool, not, _&&_, _||_, cond}
 use mathlib.Core.List.{List, [], _∷_, _++_, map, foldl}
@@ -8,18 +8,15 @@ use lib.Ieee.{Float, lt, le}
 use Rattle.float.specs.Rounded.{_⊕_, _⊗_, nought, one}
 use Rattle.float.specs.Order.{smaller}
 use Rattle.lists.specs.Retain.{retain}
-use Rattle.drift.specs.Monitor.{observeOf}
 use Rattle.drift.specs.declared.Nearest.{Nearest}
 use Rattle.drift.specs.declared.Nearest.the-variants.{Nothing, Distance}
 use Rattle.model.specs.declared.micro.MicroId.{MicroId}
 use Rattle.model.specs.declared.micro.DbMicro.{DbMicro}
 use Rattle.model.specs.declared.link.Link.{Link}
 use Rattle.model.specs.Any.{any}
-use Rattle.model.specs.Limits.{microsMost, linksMost}
-use Rattle.model.specs.Questions.{insertionAsked}
-use Rattle.model.specs.Fading.{fadedTo, absorbing, birth, distanceTo, isMultiple}
-use Rattle.model.specs.Outcome.{Outcome, outcome}
-use Rattle.model.specs.DbState.{State}
+use Rattle.model.specs.Limits.{linksMost}
+use Rattle.model.specs.Fading.{fadedTo, absorbing, birth, distanceTo}
+use Rattle.model.specs.DbState.{Params, Holdings, State}
 
 -- ---- weights and links, faded to the clock t
 abbrev pub fadedWeight : (lambda t : Float) → DbMicro → Float
@@ -34,10 +31,10 @@ abbrev pub isNeighbour : (r : Float) → List Float → DbMicro → Bool
 isNeighbour r x m = le (distanceTo x (m .cf)) (r ⊗ r)
 
 abbrev pub neighboursOf : State → List Float → List DbMicro
-neighboursOf s x = retain (isNeighbour (s .settings .r) x) (s .micros)
+neighboursOf s x = retain (isNeighbour (s .params .r) x) (s .held .micros)
 
 abbrev pub isAbsorbed : State → List Float → Bool
-isAbsorbed s x = any (isNeighbour (s .settings .r) x) (s .micros)
+isAbsorbed s x = any (isNeighbour (s .params .r) x) (s .held .micros)
 
 -- "DBSTREAM's nearest is the minimum, a NaN losing to a number"
 unfoldable pub leastOf : List Float → Nearest
@@ -45,7 +42,7 @@ leastOf [] = Nothing
 leastOf (d ∷ rest) = Distance (foldl smaller d rest)
 
 abbrev pub distancesOf : State → List Float → List Float
-distancesOf s x = map (λ (m : DbMicro). distanceTo x (m .cf)) (s .micros)
+distancesOf s x = map (λ (m : DbMicro). distanceTo x (m .cf)) (s .held .micros)
 
 -- ---- the micro-clusters
 -- "With none, a new one goes to the end, with the next creation number from 0"
@@ -98,41 +95,33 @@ abbrev pub gainOf : (lambda t : Float) → List Link → MicroId × MicroId → 
 gainOf lambda t ls p = gainIn lambda t (hasRoom ls) (absent (p .0) (p .1) t) ls
 
 -- ---- a point taken
--- a new micro-cluster; creation numbers are 64 bits wide. "Insert clears labels."
-abbrev pub born : State → List Float → State
+-- a new micro-cluster; creation numbers are 64 bits wide
+abbrev pub born : State → List Float → Holdings
 born s x =
     record {
-      settings = s .settings;
-      tGap = s .tGap;
-      floor = s .floor;
-      t = s .t;
-      next = (s .next + 1) % 2 ^ 64;
-      micros = s .micros ++ newborn (s .settings .dim) (record { 0 = s .next }) (s .t) x ∷ [];
-      links = s .links;
-      labels = [];
-      drift = s .drift;
+      next = (s .held .next + 1) % 2 ^ 64;
+      micros = s .held .micros ++ newborn (s .params .dim) (record { 0 = s .held .next }) (s .t) x ∷ [];
+      links = s .held .links;
     }
 
 abbrev pub idOf : DbMicro → MicroId
 idOf m = m .id
 
 -- "each neighbour fades to t and absorbs the point; then for each pair of neighbours the link (0 if absent) fades to t and gains 1"
-abbrev pub joined : State → List Float → State
+abbrev pub joined : State → List Float → Holdings
 joined s x =
     record {
-      settings = s .settings;
-      tGap = s .tGap;
-      floor = s .floor;
-      t = s .t;
-      next = s .next;
-      micros = map (absorbed (s .settings .r) (s .settings .lambda) (s .t) x) (s .micros);
-      links = foldl (gainOf (s .settings .lambda) (s .t)) (s .links) (pairsOf (map idOf (neighboursOf s x)));
-      labels = [];
-      drift = s .drift;
+      next = s .held .next;
+      micros = map (absorbed (s .params .r) (s .params .lambda) (s .t) x) (s .held .micros);
+      links = foldl (gainOf (s .params .lambda) (s .t)) (s .held .links) (pairsOf (map idOf (neighboursOf s x)));
     }
 
-abbrev pub placed : State → List Float → State
+abbrev pub placed : State → List Float → Holdings
 placed s x = cond (isAbsorbed s x) (joined s x) (born s x)
+
+-- the drift distance, taken before the neighbours' means move
+abbrev pub nearestFor : State → List Float → Nearest
+nearestFor s x = leastOf (distancesOf s x)
 
 -- ---- the cleanup: "micro-clusters of faded weight below floor go, then links that lost an end or faded below floor. Survivors keep their order."
 abbrev pub microStays : (lambda floor t : Float) → DbMicro → Bool
@@ -144,51 +133,7 @@ isHeld ms id = any (λ (m : DbMicro). eqb (m .id .0) (id .0)) ms
 abbrev pub linkStays : (lambda floor t : Float) → List DbMicro → Link → Bool
 linkStays lambda floor t ms l = isHeld ms (l .lo) && isHeld ms (l .hi) && not (lt (fadedLink lambda t l) floor)
 
-abbrev pub cleanup : State → State
-cleanup s =
-    let ms : List DbMicro = retain (microStays (s .settings .lambda) (s .floor) (s .t)) (s .micros) in
-    record {
-      settings = s .settings;
-      tGap = s .tGap;
-      floor = s .floor;
-      t = s .t;
-      next = s .next;
-      micros = ms;
-      links = retain (linkStays (s .settings .lambda) (s .floor) (s .t) ms) (s .links);
-      labels = s .labels;
-      drift = s .drift;
-    }
-
--- ---- the tick: "drift monitor, then t grows by 1, then, if t is a multiple of t_gap, cleanup"
-abbrev pub advanced : State → Nearest → State
-advanced s d =
-    record {
-      settings = s .settings;
-      tGap = s .tGap;
-      floor = s .floor;
-      t = s .t ⊕ one;
-      next = s .next;
-      micros = s .micros;
-      links = s .links;
-      labels = s .labels;
-      drift = observeOf (s .drift) d (s .t);
-    }
-
-unfoldable pub tickOf : State → Nearest → State
-tickOf s d = let u : State = advanced s d in cond (isMultiple (u .t) (u .tGap)) (cleanup u) u
-
--- ---- an insert
--- the drift distance, taken before the neighbours' means move
-abbrev pub nearestFor : State → List Float → Nearest
-nearestFor s x = leastOf (distancesOf s x)
-
-abbrev pub takenOf : State → List Float → State
-takenOf s x = tickOf (placed s x) (nearestFor s x)
-
--- "Would the point be absorbed, or are fewer than 64 micro-clusters held?"
-abbrev pub hasPlace : State → List Float → Bool
-hasPlace s x = isAbsorbed s x || ltb (length (s .micros)) microsMost
-
-unfoldable pub insertOf : State → List Float → Outcome State
-unfolding tickOf
-insertOf s x = outcome (insertionAsked (s .settings .dim) (length x) (s .t) (hasPlace s x)) s (takenOf s x)
+abbrev pub cleanup : Params → (t : Float) → Holdings → Holdings
+cleanup p t h =
+    let ms : List DbMicro = retain (microStays (p .lambda) (p .floor) t) (h .micros) in
+    record { next = h .next; micros = ms; links = retain (linkStays (p .lambda) (p .floor) t ms) (h .links) }

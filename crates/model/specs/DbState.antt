@@ -1,17 +1,15 @@
--- What a DBSTREAM keeps, and its opening. Definitions only.
+-- What a DBSTREAM keeps, and its opening's questions. Definitions only.
 use Prim.Native.Nat.{ℕ}
-use mathlib.Core.List.{List, []}
-use lib.IntN.{ℤ}
+use mathlib.Core.Bool.{Bool}
+use mathlib.Core.List.{List}
 use lib.Ieee.{Float}
 use Rattle.float.specs.Rounded.{nought}
-use Rattle.drift.specs.Monitor.{Monitor, newOf}
 use Rattle.model.specs.declared.micro.DbMicro.{DbMicro}
 use Rattle.model.specs.declared.link.Link.{Link}
 use Rattle.model.specs.declared.answers.Opening.{Opening}
-use Rattle.model.specs.declared.answers.Opening.the-variants.{Open}
-use Rattle.model.specs.Questions.{firstNo, questions}
+use Rattle.model.specs.Questions as asks
 use Rattle.model.specs.Periods.{tGapOf, floorOf}
-use Rattle.model.specs.Outcome.{Opened, opened}
+use Rattle.model.specs.Stream as stream
 
 pub record Settings : Type 0 where
   pub dim : ℕ
@@ -20,39 +18,40 @@ pub record Settings : Type 0 where
   pub alpha : Float
   pub minWeight : Float
 
--- next is the next creation number; micro-clusters in list order, links ascending by (lo, hi)
-pub record State : Type 0 where
-  pub settings : Settings
+pub record Params : Type 0 where
+  pub dim : ℕ
+  pub r : Float
+  pub lambda : Float
+  pub alpha : Float
+  pub minWeight : Float
   pub tGap : Float
   pub floor : Float
-  pub t : Float
+
+-- next is the next creation number; micro-clusters in list order, links ascending by (lo, hi)
+pub record Holdings : Type 0 where
   pub next : ℕ
   pub micros : List DbMicro
   pub links : List Link
-  pub labels : List ℤ
-  pub drift : Monitor
 
--- "Fresh means as an accepted opening gives it: no micro-cluster, link or label, an empty window, no alarm, clock 0."
-abbrev pub fresh : Settings → State
-fresh p =
+abbrev pub State : Type 0
+State = stream.State Params Holdings
+
+abbrev pub paramsOf : Settings → Params
+paramsOf p =
     record {
-      settings = p;
+      dim = p .dim;
+      r = p .r;
+      lambda = p .lambda;
+      alpha = p .alpha;
+      minWeight = p .minWeight;
       tGap = tGapOf (p .lambda);
       floor = floorOf (p .lambda);
-      t = nought;
-      next = 0;
-      micros = [];
-      links = [];
-      labels = [];
-      drift = newOf (p .r);
     }
 
+-- the settings beside a refusal
+abbrev pub zeros : Settings
+zeros = record { dim = 0; r = nought; lambda = nought; alpha = nought; minWeight = nought }
+
 -- "Opening a stream", its questions in order
-unfoldable pub asked : Settings → Opening
-asked p = firstNo (questions (p .dim) (p .r) (p .lambda) (p .alpha) (p .minWeight)) Open
-
-abbrev pub unopened : State
-unopened = fresh (record { dim = 0; r = nought; lambda = nought; alpha = nought; minWeight = nought })
-
-abbrev pub openOf : Settings → Opened State
-openOf p = opened (asked p) (fresh p) unopened
+abbrev pub questions : Settings → List (Bool × Opening)
+questions p = asks.questions (p .dim) (p .r) (p .lambda) (p .alpha) (p .minWeight)

@@ -1,17 +1,13 @@
--- Document 01, Families: DenStream's groups and labels; its read-outs. Definitions only.
+-- Document 01, Families: DenStream's groups and labels. Definitions only.
 use Prim.Native.Nat.{ℕ, _+_}
 use mathlib.Core.Bool.{Bool, cond}
 use mathlib.Core.List.{List, [], _∷_, _++_, map}
 use lib.IntN.{ℤ}
 use lib.Ieee.{Float, binary64, le, ofBits}
 use Rattle.float.specs.Rounded.{_⊗_}
-use Rattle.feature.specs.declared.spherical.Spherical.{Spherical}
 use Rattle.feature.specs.Distance.{sqDist}
 use Rattle.model.specs.declared.micro.Micro.{Micro}
 use Rattle.model.specs.Families.{labelsBy, countedBy}
-use Rattle.model.specs.Answers.{Said}
-use Rattle.model.specs.ReadOut as read
-use Rattle.model.specs.ReadOut.{LabelsRead, Statistics, labelsRead, statisticsRead}
 use Rattle.model.specs.DenState.{State}
 use Rattle.model.specs.DenInsert.{fadedWeight}
 
@@ -31,29 +27,12 @@ pairsFrom eps2 i [] = []
 pairsFrom eps2 i (m ∷ rest) = rowFrom eps2 i (m .cf .mean) (i + 1) rest ++ pairsFrom eps2 (i + 1) rest
 
 abbrev pub joinsOf : State → List (ℕ × ℕ)
-joinsOf s = pairsFrom (s .params .eps2) 0 (s .potential)
+joinsOf s = pairsFrom (s .params .eps2) 0 (s .held .potential)
 
 -- the potential ones' weights, faded to the clock
 abbrev pub fadedWeights : State → List Float
-fadedWeights s = map (fadedWeight (s .params .lambda) (s .t)) (s .potential)
+fadedWeights s = map (fadedWeight (s .params .lambda) (s .t)) (s .held .potential)
 
 unfoldable pub labelsOf : State → List ℤ
 unfolding labelsBy countedBy rowFrom pairsFrom
 labelsOf s = labelsBy (countedBy (s .params .mu) (fadedWeights s) (joinsOf s)) (joinsOf s)
-
-abbrev pub clusterOf : State → State
-clusterOf s =
-    record { params = s .params; t = s .t; potential = s .potential; outliers = s .outliers; labels = labelsOf s; drift = s .drift }
-
--- ---- read-outs
-abbrev pub featuresOf : State → List Spherical
-featuresOf s = map (λ (m : Micro). m .cf) (s .potential)
-
-abbrev pub predictOf : State → List Float → Said ℤ
-predictOf s x = read.predictOf (s .params .dim) (s .params .eps2) (featuresOf s) (s .labels) x
-
-abbrev pub labelsReadOf : State → (lent : List ℤ) → LabelsRead
-labelsReadOf s lent = labelsRead (s .labels) lent
-
-abbrev pub statisticsOf : State → (centres weights radii : List Float) → Statistics
-statisticsOf s = statisticsRead (featuresOf s) (fadedWeights s)

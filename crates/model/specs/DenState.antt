@@ -1,17 +1,16 @@
--- What a DenStream keeps, and its opening. Definitions only.
+-- What a DenStream keeps, and its opening's questions. Definitions only.
 use Prim.Native.Nat.{ℕ}
+use mathlib.Core.Bool.{Bool}
 use mathlib.Core.List.{List, [], _∷_, _++_}
-use lib.IntN.{ℤ}
 use lib.Ieee.{Float, lt}
 use Rattle.float.specs.Rounded.{_⊗_, nought, one}
-use Rattle.drift.specs.Monitor.{Monitor, newOf}
 use Rattle.model.specs.declared.micro.Micro.{Micro}
 use Rattle.model.specs.declared.params.Params.{Params}
 use Rattle.model.specs.declared.answers.Opening.{Opening}
-use Rattle.model.specs.declared.answers.Opening.the-variants.{Open, BetaMu}
-use Rattle.model.specs.Questions.{firstNo, questions}
+use Rattle.model.specs.declared.answers.Opening.the-variants.{BetaMu}
+use Rattle.model.specs.Questions as asks
 use Rattle.model.specs.Periods.{bmOf, tpOf}
-use Rattle.model.specs.Outcome.{Opened, opened}
+use Rattle.model.specs.Stream as stream
 
 pub record Settings : Type 0 where
   pub dim : ℕ
@@ -21,13 +20,15 @@ pub record Settings : Type 0 where
   pub mu : Float
 
 -- both pools in list order with all that is kept of each
-pub record State : Type 0 where
-  pub params : Params
-  pub t : Float
+pub record Holdings : Type 0 where
   pub potential : List Micro
   pub outliers : List Micro
-  pub labels : List ℤ
-  pub drift : Monitor
+
+abbrev pub pooled : (potential outliers : List Micro) → Holdings
+pooled potential outliers = record { potential = potential; outliers = outliers }
+
+abbrev pub State : Type 0
+State = stream.State Params Holdings
 
 abbrev pub paramsOf : Settings → Params
 paramsOf p =
@@ -40,19 +41,10 @@ paramsOf p =
       tp = tpOf (p .lambda) (bmOf (p .beta) (p .mu));
     }
 
--- "Fresh means as an accepted opening gives it: no micro-cluster, link or label, an empty window, no alarm, clock 0."
-abbrev pub fresh : Settings → State
-fresh p = record { params = paramsOf p; t = nought; potential = []; outliers = []; labels = []; drift = newOf (p .eps) }
+-- the settings beside a refusal
+abbrev pub zeros : Settings
+zeros = record { dim = 0; eps = nought; lambda = nought; beta = nought; mu = nought }
 
 -- "Opening a stream", its questions in order; "DenStream: is beta × mu above 1? No: 6."
-unfoldable pub asked : Settings → Opening
-asked p =
-    firstNo
-    (questions (p .dim) (p .eps) (p .lambda) (p .beta) (p .mu) ++ (lt one (bmOf (p .beta) (p .mu)), BetaMu) ∷ [])
-    Open
-
-abbrev pub unopened : State
-unopened = fresh (record { dim = 0; eps = nought; lambda = nought; beta = nought; mu = nought })
-
-abbrev pub openOf : Settings → Opened State
-openOf p = opened (asked p) (fresh p) unopened
+abbrev pub questions : Settings → List (Bool × Opening)
+questions p = asks.questions (p .dim) (p .eps) (p .lambda) (p .beta) (p .mu) ++ (lt one (bmOf (p .beta) (p .mu)), BetaMu) ∷ []

@@ -17,11 +17,16 @@ pub mod Numbers
 pub mod Outcome
 pub mod InsertLaws
 pub mod Run
+pub mod Stream
+pub mod OpenLaws
+pub mod StreamLaws
 pub mod DbState
 pub mod DbInsert
 pub mod DbCluster
+pub mod Dbstream
 pub mod DenState
 pub mod DenInsert
 pub mod DenCluster
+pub mod Denstream
 pub mod NumberLaws
 pub mod Readings

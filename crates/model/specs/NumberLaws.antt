@@ -1,25 +1,23 @@
 -- Each opening and each insert is refused with document 01's number and values. Assumes nothing.
-use Prim.Native.Nat.{ℕ}
 use mathlib.Core.Path.{_≡_, refl, ap, _∙_}
 use mathlib.Core.Bool.{Bool, true, false, cond}
-use mathlib.Core.List.{List, [], _∷_, _++_, map}
+use mathlib.Core.List.{List, [], _∷_, map}
 use lib.Dec.{eqb}
 use lib.Ieee.{Float, lt}
 use lib.ListN.{length}
-use Rattle.float.specs.Rounded.{one}
-use Rattle.model.specs.declared.answers.Opening.the-variants.{Open, BetaMu}
-use Rattle.model.specs.declared.answers.Insertion.{Insertion}
+use Rattle.model.specs.declared.answers.Opening.{Opening}
+use Rattle.model.specs.declared.answers.Opening.the-variants.{Open}
 use Rattle.model.specs.declared.answers.Insertion.the-variants.{Done, Shape, ClockAtLimit, NoPlace}
 use Rattle.model.specs.Limits.{clockLimit}
 use Rattle.model.specs.Answers.{openingNumber}
-use Rattle.model.specs.Questions.{firstNo, questions, insertionAsked}
+use Rattle.model.specs.Questions.{firstNo}
 use Rattle.model.specs.Numbers.{dbOpeningNo, denOpeningNo, insertionNo, insertionSaid}
-use Rattle.model.specs.Periods.{bmOf}
-use Rattle.model.specs.Outcome.{Opened, Outcome, outcome}
+use Rattle.model.specs.Outcome.{Opened, Outcome}
+use Rattle.model.specs.Stream.{State, Kind, asked, openOf, hasPlace, insertBy, insertOf}
 use Rattle.model.specs.DbState as db
-use Rattle.model.specs.DbInsert as db-insert
 use Rattle.model.specs.DenState as den
-use Rattle.model.specs.DenInsert as den-insert
+use Rattle.model.specs.Dbstream.{dbstream}
+use Rattle.model.specs.Denstream.{denstream}
 
 -- what is said of the first no is the first no of what is said
 first-no : {A B : Type 0} (f : A → B) (qs : List (Bool × A)) (a : A) → f (firstNo qs a) ≡ firstNo (map (λ (q : Bool × A). (q .0, f (q .1))) qs) (f a)
@@ -32,42 +30,29 @@ first-no {A} f (q ∷ qs) a = go (q .0) (first-no f qs a)
     go true h = h
     go false h = refl
 
-answered : {S : Type 0} (a : Insertion) (came taken : S) → outcome a came taken .answer ≡ a
-answered Done came taken = refl
-answered (Shape expected got) came taken = refl
-answered ClockAtLimit came taken = refl
-answered NoPlace came taken = refl
+-- an insert of a stream of any kind
+pub insertion-said :
+    {S P H : Type 0} (k : Kind S P H) (s : State P H) (x : List Float) (o : Outcome (State P H)) → o ≡ insertOf k s x →
+    insertionSaid (o .answer) ≡ insertionNo (k .dim (s .params)) (length x) (s .t) (hasPlace k s x)
+unfolding insertBy
+insertion-said {S} {P} {H} k s x o e =
+    ap (λ (q : Outcome (State P H)). insertionSaid (q .answer)) e
+    ∙ first-no insertionSaid
+    ((eqb (length x) (k .dim (s .params)), Shape (k .dim (s .params)) (length x)) ∷ (lt (s .t) clockLimit, ClockAtLimit) ∷ (hasPlace k s x, NoPlace) ∷ []) Done
 
-insertion-said :
-    {S : Type 0} (dim got : ℕ) (t : Float) (place : Bool) (came taken : S) (o : Outcome S) → o ≡ outcome (insertionAsked dim got t place) came taken →
-    insertionSaid (o .answer) ≡ insertionNo dim got t place
-insertion-said {S} dim got t place came taken o e =
-    ap (λ (q : Outcome S). insertionSaid (q .answer)) e ∙ ap insertionSaid (answered (insertionAsked dim got t place) came taken)
-    ∙ first-no insertionSaid ((eqb got dim, Shape dim got) ∷ (lt t clockLimit, ClockAtLimit) ∷ (place, NoPlace) ∷ []) Done
+-- an opening: the first no's number
+opening-said :
+    {S P H : Type 0} (k : Kind S P H) (p : S) (o : Opened (State P H)) → o ≡ openOf k p →
+    openingNumber (o .answer) ≡ firstNo (map (λ (q : Bool × Opening). (q .0, openingNumber (q .1))) (k .questions p)) 0
+unfolding asked
+opening-said {S} {P} {H} k p o e = ap (λ (q : Opened (State P H)). openingNumber (q .answer)) e ∙ first-no openingNumber (k .questions p) Open
 
 pub db-opening-said :
-    (p : db.Settings) (o : Opened db.State) → o ≡ db.openOf p →
+    (p : db.Settings) (o : Opened db.State) → o ≡ openOf dbstream p →
     openingNumber (o .answer) ≡ dbOpeningNo (p .dim) (p .r) (p .lambda) (p .alpha) (p .minWeight)
-unfolding db.asked
-db-opening-said p o e =
-    ap (λ (q : Opened db.State). openingNumber (q .answer)) e ∙ first-no openingNumber (questions (p .dim) (p .r) (p .lambda) (p .alpha) (p .minWeight)) Open
+db-opening-said p o e = opening-said dbstream p o e
 
 pub den-opening-said :
-    (p : den.Settings) (o : Opened den.State) → o ≡ den.openOf p →
+    (p : den.Settings) (o : Opened den.State) → o ≡ openOf denstream p →
     openingNumber (o .answer) ≡ denOpeningNo (p .dim) (p .eps) (p .lambda) (p .beta) (p .mu)
-unfolding den.asked
-den-opening-said p o e =
-    ap (λ (q : Opened den.State). openingNumber (q .answer)) e
-    ∙ first-no openingNumber (questions (p .dim) (p .eps) (p .lambda) (p .beta) (p .mu) ++ (lt one (bmOf (p .beta) (p .mu)), BetaMu) ∷ []) Open
-
-pub db-insertion-said :
-    (s : db.State) (x : List Float) (o : Outcome db.State) → o ≡ db-insert.insertOf s x →
-    insertionSaid (o .answer) ≡ insertionNo (s .settings .dim) (length x) (s .t) (db-insert.hasPlace s x)
-unfolding db-insert.insertOf
-db-insertion-said s x o e = insertion-said (s .settings .dim) (length x) (s .t) (db-insert.hasPlace s x) s (db-insert.takenOf s x) o e
-
-pub den-insertion-said :
-    (s : den.State) (x : List Float) (o : Outcome den.State) → o ≡ den-insert.insertOf s x →
-    insertionSaid (o .answer) ≡ insertionNo (s .params .dim) (length x) (s .t) (den-insert.hasPlace s x)
-unfolding den-insert.insertOf
-den-insertion-said s x o e = insertion-said (s .params .dim) (length x) (s .t) (den-insert.hasPlace s x) s (den-insert.takenOf s x) o e
+den-opening-said p o e = opening-said denstream p o e

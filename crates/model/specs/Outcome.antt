@@ -2,8 +2,7 @@
 use mathlib.Core.Bool.{cond}
 use Rattle.model.specs.declared.answers.Opening.{Opening}
 use Rattle.model.specs.declared.answers.Insertion.{Insertion}
-use Rattle.model.specs.declared.answers.Insertion.the-variants.{Done, Shape, ClockAtLimit, NoPlace}
-use Rattle.model.specs.Answers.{isOpen}
+use Rattle.model.specs.Answers.{isOpen, isDone}
 
 pub record Opened (S : Type 0) : Type 0 where
   pub answer : Opening
@@ -19,7 +18,4 @@ pub record Outcome (S : Type 0) : Type 0 where
 
 -- "A refusal .. returns the stream as it came"
 abbrev pub outcome : {S : Type 0} → Insertion → (came taken : S) → Outcome S
-outcome Done came taken = record { answer = Done; stream = taken }
-outcome (Shape expected got) came taken = record { answer = Shape expected got; stream = came }
-outcome ClockAtLimit came taken = record { answer = ClockAtLimit; stream = came }
-outcome NoPlace came taken = record { answer = NoPlace; stream = came }
+outcome a came taken = record { answer = a; stream = cond (isDone a) taken came }

@@ -22,9 +22,11 @@ use Rattle.model.specs.Answers.{openingNumber}
 use Rattle.model.specs.Any.{any}
 use Rattle.model.specs.Periods.{tpOf}
 use Rattle.model.specs.Run.{runOf}
-use Rattle.model.specs.DbState as db
-use Rattle.model.specs.DbInsert as db-insert
-use Rattle.model.specs.DenState as den
+use Rattle.model.specs.Stream.{asked, tickOf, insertBy}
+use Rattle.model.specs.DbState.{Settings}
+use Rattle.model.specs.DbInsert.{leastOf, pairsOf, gainIn}
+use Rattle.model.specs.Dbstream as db
+use Rattle.model.specs.Denstream as den
 use Rattle.model.specs.DenInsert.{outlierNeeds}
 
 abbrev half : Float
@@ -34,7 +36,7 @@ abbrev quarter : Float
 quarter = fin false 1 (negsuc 1)
 
 -- DBSTREAM: r 1, lambda 1
-abbrev unit : ℕ → db.Settings
+abbrev unit : ℕ → Settings
 unit dim = record { dim = dim; r = one; lambda = one; alpha = one; minWeight = one }
 
 -- "lambda 0.25, bm 2: tp 4"
@@ -58,11 +60,11 @@ pub readings :
     × (sqrtOf (whole 4) ≡ two)
     × (sqrtOf (fin false 1 (negsuc 1073)) ≡ fin false 1 (negsuc 536))
     -- "r 1, lambda 1, points 0 and 1: one micro-cluster."
-    × (length (runOf db-insert.insertOf (db.fresh (unit 1)) ((nought ∷ []) ∷ (one ∷ []) ∷ []) .micros) ≡ 1)
+    × (length (runOf db.insertOf (db.fresh (unit 1)) ((nought ∷ []) ∷ (one ∷ []) ∷ []) .held .micros) ≡ 1)
     -- "Seven values: five buckets of 1, one of 2.", whatever the values and delta
     × ((delta : Float) (s : ℕ → Bool) (m : ℕ → ℕ) (e : ℕ → ℤ) → sizesOf (window.runOf (newOf delta) (seven s m e)) ≡ two ∷ one ∷ one ∷ one ∷ one ∷ one ∷ [])
     -- "dim 16: refusal 1; dim 15 opens."
     × (openingNumber (db.asked (unit 16)) ≡ 1)
     × (openingNumber (db.asked (unit 15)) ≡ 0)
-unfolding computed toUnsigned ticksOf sqrtOf sumFrom moved retain any updateOf den.asked db.asked db-insert.leastOf db-insert.pairsOf db-insert.gainIn db-insert.tickOf db-insert.insertOf runOf
+unfolding computed toUnsigned ticksOf sqrtOf sumFrom moved retain any updateOf asked leastOf pairsOf gainIn tickOf insertBy runOf
 readings = (refl, refl, refl, refl, refl, refl, refl, refl, refl, refl, refl, seven-values, refl, refl)

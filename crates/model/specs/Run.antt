@@ -1,9 +1,10 @@
 -- Document 01, "A whole run": every insert of a list, of any stream. Definitions only.
 use Prim.Native.Nat.{ℕ, _+_}
+use mathlib.Core.Bool.{cond}
 use mathlib.Core.List.{List, [], _∷_}
 use lib.Ieee.{Float}
 use Rattle.model.specs.declared.answers.Insertion.{Insertion}
-use Rattle.model.specs.declared.answers.Insertion.the-variants.{Done, Shape, ClockAtLimit, NoPlace}
+use Rattle.model.specs.Answers.{isDone}
 use Rattle.model.specs.Outcome.{Outcome}
 
 module _ {S : Type 0} (insert : S → List Float → Outcome S) where
@@ -19,10 +20,7 @@ module _ {S : Type 0} (insert : S → List Float → Outcome S) where
 
 -- how many of the inserts were accepted
 abbrev pub oneIfDone : Insertion → ℕ
-oneIfDone Done = 1
-oneIfDone (Shape expected got) = 0
-oneIfDone ClockAtLimit = 0
-oneIfDone NoPlace = 0
+oneIfDone a = cond (isDone a) 1 0
 
 abbrev pub acceptedIn : List Insertion → ℕ
 acceptedIn [] = 0

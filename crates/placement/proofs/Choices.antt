@@ -13,6 +13,7 @@ use Rattle.drift.specs.declared.Nearest.{Nearest}
 use Rattle.model.specs.declared.micro.Micro.{Micro}
 use Rattle.model.specs.declared.params.Params.{Params}
 use Rattle.model.specs.Limits.{microsMost}
+use Rattle.model.specs.DenState.{Holdings}
 use Rattle.model.specs.DenInsert.{smallerOf, newborn}
 use Rattle.pool.specs.declared.trial.Trial.{Trial}
 use Rattle.pool.specs.Held.{dimOf, settledOf, microIn, seen}
@@ -21,7 +22,7 @@ use Rattle.pool.specs.TriedLaws.{newborn-in}
 use Rattle.placement.specs.declared.choice.Target.{Target}
 use Rattle.placement.specs.declared.choice.Target.the-variants.{Potential, Newborn, Nowhere}
 use Rattle.placement.specs.declared.choice.Placement.{Placement}
-use Rattle.placement.specs.Pools.{potentialHeld, outliersHeld, potentialIn, outliersIn}
+use Rattle.placement.specs.Pools.{potentialHeld, outliersHeld, poolsOf}
 use Rattle.placement.specs.PoolLaws.{held-length}
 use Rattle.placement.specs.Placing.{grownTo, elseBy, placementBy, hasRoom, placementOf, placementTold}
 
@@ -32,46 +33,43 @@ module _ (p : Params) (t : Float) (point : List Float) (potential : List Micro) 
   abbrev x : List Float
   x = take d point
 
-  abbrev ps : List Micro
-  ps = potentialIn p potential potentialCount
-
-  abbrev os : List Micro
-  os = outliersIn p outliers potentialCount outlierCount
+  abbrev h : Holdings
+  h = poolsOf d potential potentialCount outliers outlierCount
 
   abbrev tried : List Micro → Trial
   tried = triedOf (settledOf p) t x
 
   abbrev else : Nearest → Trial → Placement
-  else = elseBy (settledOf p) t x (hasRoom ps os)
+  else = elseBy (settledOf p) t x (hasRoom h)
 
   abbrev Placed : Placement → Type 0
-  Placed r = placementTold d r ≡ placementOf (settledOf p) t ps os x
+  Placed r = placementTold d r ≡ placementOf (settledOf p) t h x
 
   -- a is the trial of the np potential ones held
   module _ (np : ℕ) (ep : np ≡ potentialHeld potentialCount) (a : Trial) (ea : trialTold d a ≡ tried (seen d np potential)) where
     abbrev merged : Placement
     merged = record { target = Potential; place = a .place; micro = a .micro; near = a .near }
 
-    tried-potential : trialTold d a ≡ tried ps
+    tried-potential : trialTold d a ≡ tried (h .potential)
     tried-potential = ea ∙ ap (λ (n : ℕ). tried (seen d n potential)) ep
 
     pub placed-potential : (r : Placement) → r ≡ merged → a .stands ≡ true → Placed r
-    placed-potential r e h =
+    placed-potential r e stands =
         ap (placementTold d) e
-        ∙ ap (λ (u : Bool). cond u (placementTold d merged) (else (smallerOf (a .near) (tried os .near)) (tried os))) (sym h)
-        ∙ ap (λ (c : Trial). placementBy (settledOf p) t x (hasRoom ps os) c (tried os)) tried-potential
+        ∙ ap (λ (u : Bool). cond u (placementTold d merged) (else (smallerOf (a .near) (tried (h .outliers) .near)) (tried (h .outliers)))) (sym stands)
+        ∙ ap (λ (c : Trial). placementBy (settledOf p) t x (hasRoom h) c (tried (h .outliers))) tried-potential
 
     -- no potential one takes it, and b is the trial of the outliers held
-    module _ (h : a .stands ≡ false) (no-count : ℕ) (eo : no-count ≡ outliersHeld potentialCount outlierCount) (b : Trial)
+    module _ (free : a .stands ≡ false) (no-count : ℕ) (eo : no-count ≡ outliersHeld potentialCount outlierCount) (b : Trial)
         (eb : trialTold d b ≡ tried (seen d no-count outliers)) (near : Nearest) (g : near ≡ smallerOf (a .near) (b .near)) (r : Placement) where
-      tried-outliers : trialTold d b ≡ tried os
+      tried-outliers : trialTold d b ≡ tried (h .outliers)
       tried-outliers = eb ∙ ap (λ (n : ℕ). tried (seen d n outliers)) eo
 
-      by-others : else near (trialTold d b) ≡ placementOf (settledOf p) t ps os x
+      by-others : else near (trialTold d b) ≡ placementOf (settledOf p) t h x
       by-others =
           ap (λ (n : Nearest). else n (trialTold d b)) g
-          ∙ ap (λ (u : Bool). cond u (placementTold d merged) (else (smallerOf (a .near) (b .near)) (trialTold d b))) (sym h)
-          ∙ ap₂ (placementBy (settledOf p) t x (hasRoom ps os)) tried-potential tried-outliers
+          ∙ ap (λ (u : Bool). cond u (placementTold d merged) (else (smallerOf (a .near) (b .near)) (trialTold d b))) (sym free)
+          ∙ ap₂ (placementBy (settledOf p) t x (hasRoom h)) tried-potential tried-outliers
 
       abbrev taken : Target → Placement
       taken target = record { target = target; place = b .place; micro = b .micro; near = near }
@@ -81,7 +79,7 @@ module _ (p : Params) (t : Float) (point : List Float) (potential : List Micro) 
 
       -- by whether the outlier takes it
       abbrev by-stands : Bool → Placement
-      by-stands u = cond u (placementTold d (taken (grownTo (p .bm) (b .micro)))) (left (newborn d t x) (hasRoom ps os))
+      by-stands u = cond u (placementTold d (taken (grownTo (p .bm) (b .micro)))) (left (newborn d t x) (hasRoom h))
 
       pub placed-outlier : (target : Target) → target ≡ grownTo (p .bm) (b .micro) → r ≡ taken target → b .stands ≡ true → Placed r
       placed-outlier target w e k =
@@ -94,17 +92,17 @@ module _ (p : Params) (t : Float) (point : List Float) (potential : List Micro) 
         born-is =
             newborn-in d t x m (length-take-le d point (omega arith)) (omega arith) (w ∙ ap (λ (j : ℕ). newborn maxDim t (take j point)) c)
 
-        placed-left : (room : Bool) → room ≡ hasRoom ps os → r ≡ left m room → Placed r
+        placed-left : (room : Bool) → room ≡ hasRoom h → r ≡ left m room → Placed r
         placed-left room q e = ap (placementTold d) e ∙ ap₂ left born-is q ∙ ap by-stands (sym st) ∙ by-others
 
-        held-are : length ps + length os ≡ np + no-count
+        held-are : length (h .potential) + length (h .outliers) ≡ np + no-count
         held-are =
             ap₂ (λ (i j : ℕ). i + j)
             (held-length d (potentialHeld potentialCount) potential (omega arith) ∙ sym ep)
             (held-length d (outliersHeld potentialCount outlierCount) outliers (omega arith) ∙ sym eo)
 
         pub placed-newborn : r ≡ left m true → np + no-count < microsMost → Placed r
-        placed-newborn e low = placed-left true (sym (lt-ltb (length ps + length os) microsMost (omega (arith, held-are)))) e
+        placed-newborn e low = placed-left true (sym (lt-ltb (length (h .potential) + length (h .outliers)) microsMost (omega (arith, held-are)))) e
 
         pub placed-nowhere : r ≡ left m false → microsMost ≤ np + no-count → Placed r
-        placed-nowhere e full = placed-left false (sym (le-ltb (length ps + length os) microsMost (omega (arith, held-are)))) e
+        placed-nowhere e full = placed-left false (sym (le-ltb (length (h .potential) + length (h .outliers)) microsMost (omega (arith, held-are)))) e

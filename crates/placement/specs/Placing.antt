@@ -10,8 +10,8 @@ use Rattle.drift.specs.declared.Nearest.{Nearest}
 use Rattle.model.specs.declared.micro.Micro.{Micro}
 use Rattle.model.specs.declared.params.Params.{Params}
 use Rattle.model.specs.Limits.{microsMost}
-use Rattle.model.specs.DenState.{State}
-use Rattle.model.specs.DenInsert.{pooled, newborn, smallerOf}
+use Rattle.model.specs.DenState.{Holdings, pooled}
+use Rattle.model.specs.DenInsert.{newborn, smallerOf}
 use Rattle.pool.specs.declared.trial.Trial.{Trial}
 use Rattle.pool.specs.Held.{microIn}
 use Rattle.pool.specs.Tried.{triedOf}
@@ -37,11 +37,11 @@ placementBy p t x room a b =
     (elseBy p t x room (smallerOf (a .near) (b .near)) b)
 
 -- "are fewer than 64 micro-clusters held (DenStream: both pools together)?"
-abbrev pub hasRoom : (potential outliers : List Micro) → Bool
-hasRoom potential outliers = ltb (length potential + length outliers) microsMost
+abbrev pub hasRoom : Holdings → Bool
+hasRoom h = ltb (length (h .potential) + length (h .outliers)) microsMost
 
-abbrev pub placementOf : Params → (t : Float) → (potential outliers : List Micro) → List Float → Placement
-placementOf p t potential outliers x = placementBy p t x (hasRoom potential outliers) (triedOf p t x potential) (triedOf p t x outliers)
+abbrev pub placementOf : Params → (t : Float) → Holdings → List Float → Placement
+placementOf p t h x = placementBy p t x (hasRoom h) (triedOf p t x (h .potential)) (triedOf p t x (h .outliers))
 
 -- a placement whose micro-cluster is kept in 15 places, as that of dim coordinates which it is
 abbrev pub placementTold : (dim : ℕ) → Placement → Placement
@@ -55,18 +55,18 @@ takes Outlier = true
 takes Newborn = true
 takes Nowhere = false
 
--- the stream after the micro-cluster m went to its target
-abbrev pub pooledAt : Target → (place : ℕ) → Micro → State → State
-pooledAt Potential place m s = pooled s (set (s .potential) place m) (s .outliers)
-pooledAt Promotion place m s = pooled s (s .potential ++ m ∷ []) (without place (s .outliers))
-pooledAt Outlier place m s = pooled s (s .potential) (set (s .outliers) place m)
-pooledAt Newborn place m s = pooled s (s .potential) (s .outliers ++ m ∷ [])
-pooledAt Nowhere place m s = s
+-- what is held after the micro-cluster m went to its target
+abbrev pub pooledAt : Target → (place : ℕ) → Micro → Holdings → Holdings
+pooledAt Potential place m h = pooled (set (h .potential) place m) (h .outliers)
+pooledAt Promotion place m h = pooled (h .potential ++ m ∷ []) (without place (h .outliers))
+pooledAt Outlier place m h = pooled (h .potential) (set (h .outliers) place m)
+pooledAt Newborn place m h = pooled (h .potential) (h .outliers ++ m ∷ [])
+pooledAt Nowhere place m h = h
 
 -- whether the pools have what the target needs
-abbrev pub Ready : Target → (place : ℕ) → State → Type 0
-Ready Potential place s = place < length (s .potential)
-Ready Promotion place s = place < length (s .outliers)
-Ready Outlier place s = place < length (s .outliers)
-Ready Newborn place s = length (s .potential) + length (s .outliers) < microsMost
-Ready Nowhere place s = Unit {0}
+abbrev pub Ready : Target → (place : ℕ) → Holdings → Type 0
+Ready Potential place h = place < length (h .potential)
+Ready Promotion place h = place < length (h .outliers)
+Ready Outlier place h = place < length (h .outliers)
+Ready Newborn place h = length (h .potential) + length (h .outliers) < microsMost
+Ready Nowhere place h = Unit {0}

@@ -13,9 +13,10 @@ use Rattle.drift.specs.declared.Nearest.{Nearest}
 use Rattle.model.specs.declared.micro.Micro.{Micro}
 use Rattle.model.specs.Limits.{microsMost}
 use Rattle.model.specs.Nearest.{Near}
-use Rattle.model.specs.DenState.{State}
+use Rattle.model.specs.DenState.{pooled, State}
 use Rattle.model.specs.DenInsert as doc
-use Rattle.model.specs.DenInsert.{pooled, nearestIn, trialIn, isThere, distanceOf, smallerOf, nearestFor, placedBy, newborn, hasPlace}
+use Rattle.model.specs.DenInsert.{nearestIn, trialIn, isThere, distanceOf, smallerOf, nearestFor, placedBy, newborn}
+use Rattle.model.specs.Denstream.{hasPlace}
 use Rattle.pool.specs.declared.trial.Trial.{Trial}
 use Rattle.pool.specs.Tried.{triedOf}
 use Rattle.pool.specs.TriedLaws.{takerOf, tried-trial, tried-near, tried-low}
@@ -27,8 +28,8 @@ use Rattle.placement.specs.Placing.{takes, elseBy, placementBy, hasRoom,
 pub record Placing (s : State) (x : List Float) (r : Placement) : Type 0 where
   pub fits : takes (r .target) ≡ hasPlace s x
   pub near : r .near ≡ nearestFor s x
-  pub placed : takes (r .target) ≡ true → pooledAt (r .target) (r .place) (r .micro) s ≡ doc.placed s x
-  pub ready : Ready (r .target) (r .place) s
+  pub placed : takes (r .target) ≡ true → pooledAt (r .target) (r .place) (r .micro) (s .held) ≡ doc.placed s x
+  pub ready : Ready (r .target) (r .place) (s .held)
 
 -- a trial of a pool, as document 01's definitions have it
 record Trying (s : State) (x : List Float) (pool : List Micro) (a : Trial) : Type 0 where
@@ -44,9 +45,9 @@ trying s x pool =
       low = tried-low (s .params) (s .t) x pool;
     }
 
-module _ (s : State) (x : List Float) (a b : Trial) (ea : Trying s x (s .potential) a) (eb : Trying s x (s .outliers) b) where
+module _ (s : State) (x : List Float) (a b : Trial) (ea : Trying s x (s .held .potential) a) (eb : Trying s x (s .held .outliers) b) where
   abbrev room : Bool
-  room = hasRoom (s .potential) (s .outliers)
+  room = hasRoom (s .held)
 
   -- the placements that there can be, by the outlier's weight and by the room
   abbrev merged : Placement
@@ -71,13 +72,13 @@ module _ (s : State) (x : List Float) (a b : Trial) (ea : Trying s x (s .potenti
   by-potential : a .stands ≡ true → Placing s x merged
   unfolding nearestFor doc.placed
   by-potential h =
-      let i : trialIn s x (s .potential) ≡ some (takerOf a) = taken-by ea true h in
-      let p : Nearest = distanceOf (nearestIn x (s .potential)) in
-      let q : Nearest = distanceOf (nearestIn x (s .outliers)) in
+      let i : trialIn s x (s .held .potential) ≡ some (takerOf a) = taken-by ea true h in
+      let p : Nearest = distanceOf (nearestIn x (s .held .potential)) in
+      let q : Nearest = distanceOf (nearestIn x (s .held .outliers)) in
       record {
-        fits = ap (λ (o : Option (Near Micro)). (isThere o || isThere (trialIn s x (s .outliers))) || room) (sym i);
+        fits = ap (λ (o : Option (Near Micro)). (isThere o || isThere (trialIn s x (s .held .outliers))) || room) (sym i);
         near = ea .near ∙ ap (λ (o : Option (Near Micro)). cond (isThere o) p (smallerOf p q)) (sym i);
-        placed = λ k. ap (λ (o : Option (Near Micro)). placedBy s x o (trialIn s x (s .outliers))) (sym i);
+        placed = λ k. ap (λ (o : Option (Near Micro)). placedBy s x o (trialIn s x (s .held .outliers))) (sym i);
         ready = ea .low h;
       }
 
@@ -85,8 +86,8 @@ module _ (s : State) (x : List Float) (a b : Trial) (ea : Trying s x (s .potenti
     near-is : near ≡ nearestFor s x
     unfolding nearestFor
     near-is =
-        let p : Nearest = distanceOf (nearestIn x (s .potential)) in
-        let q : Nearest = distanceOf (nearestIn x (s .outliers)) in
+        let p : Nearest = distanceOf (nearestIn x (s .held .potential)) in
+        let q : Nearest = distanceOf (nearestIn x (s .held .outliers)) in
         ap₂ smallerOf (ea .near) (eb .near) ∙ ap (λ (o : Option (Near Micro)). cond (isThere o) p (smallerOf p q)) (sym (taken-by ea false h))
 
     fits-is : (u : Bool) → b .stands ≡ u → isThere (cond u (some (takerOf b)) none) || room ≡ hasPlace s x
@@ -102,8 +103,8 @@ module _ (s : State) (x : List Float) (a b : Trial) (ea : Trying s x (s .potenti
       where
         go :
             (u : Bool) →
-            cond u (pooled s (s .potential ++ b .micro ∷ []) (without (b .place) (s .outliers)))
-            (pooled s (s .potential) (set (s .outliers) (b .place) (b .micro))) ≡ doc.placed s x →
+            cond u (pooled (s .held .potential ++ b .micro ∷ []) (without (b .place) (s .held .outliers)))
+            (pooled (s .held .potential) (set (s .held .outliers) (b .place) (b .micro))) ≡ doc.placed s x →
             Placing s x (grown u)
         go true w = record { fits = fits-is true k; near = near-is; placed = λ y. w; ready = eb .low k }
         go false w = record { fits = fits-is true k; near = near-is; placed = λ y. w; ready = eb .low k }
@@ -118,7 +119,7 @@ module _ (s : State) (x : List Float) (a b : Trial) (ea : Trying s x (s .potenti
               fits = w;
               near = near-is;
               placed = λ y. placed-is false k;
-              ready = ltb-true (length (s .potential) + length (s .outliers)) microsMost e;
+              ready = ltb-true (length (s .held .potential) + length (s .held .outliers)) microsMost e;
             }
         go false e w =
             record {
@@ -142,7 +143,7 @@ module _ (s : State) (x : List Float) (a b : Trial) (ea : Trying s x (s .potenti
       go true h = by-potential h
       go false h = by-others h
 
-pub placing-law : (s : State) (x : List Float) → Placing s x (placementOf (s .params) (s .t) (s .potential) (s .outliers) x)
+pub placing-law : (s : State) (x : List Float) → Placing s x (placementOf (s .params) (s .t) (s .held) x)
 placing-law s x =
-    by-trials s x (triedOf (s .params) (s .t) x (s .potential)) (triedOf (s .params) (s .t) x (s .outliers))
-    (trying s x (s .potential)) (trying s x (s .outliers))
+    by-trials s x (triedOf (s .params) (s .t) x (s .held .potential)) (triedOf (s .params) (s .t) x (s .held .outliers))
+    (trying s x (s .held .potential)) (trying s x (s .held .outliers))

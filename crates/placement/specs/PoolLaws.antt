@@ -1,10 +1,9 @@
 -- What is done to the arrays of the pools is done to the stream that keeps them. Assumes nothing.
-use Prim.Native.Nat.{ℕ, zero, suc, _+_, _≤_, _<_, min}
+use Prim.Native.Nat.{ℕ, zero, suc, _+_, _≤_, _<_}
 use mathlib.Core.Path.{_≡_, refl, sym, ap, ap₂, _∙_, subst}
 use mathlib.Core.List.{List, [], _∷_, _++_, map}
 use native.Mathlib.Omega.{arith}
 use native.Mathlib.Numerals.{add-one}
-use lib.IntN.{ℤ}
 use lib.Ieee.{Float}
 use lib.ListN.{length, take, set, length-take, length-map}
 use lib.Seq.{take-suc-set, length-take-le}
@@ -12,17 +11,15 @@ use Rattle.lists.specs.Retain.{retain, without}
 use Rattle.lists.specs.Rest.{take-set}
 use Rattle.lists.specs.Maps.{map-set, map-append, map-retain}
 use Rattle.lists.specs.Sizes.{retain-length, without-length}
-use Rattle.feature.specs.Feature.{maxDim}
-use Rattle.drift.specs.Monitor.{Monitor}
 use Rattle.model.specs.declared.micro.Micro.{Micro}
 use Rattle.model.specs.declared.params.Params.{Params}
-use Rattle.model.specs.DenState.{State}
+use Rattle.model.specs.DenState.{Holdings, pooled}
 use Rattle.model.specs.DenInsert.{potentialStays, outlierStays, pruned}
 use Rattle.pool.specs.declared.pool.Pool.{Pool}
 use Rattle.pool.specs.Held.{held, microIn, seen}
 use Rattle.placement.specs.declared.choice.Target.{Target}
 use Rattle.placement.specs.declared.choice.Target.the-variants.{Potential, Promotion, Outlier, Newborn}
-use Rattle.placement.specs.Pools.{potentialHeld, outliersHeld, stateOf}
+use Rattle.placement.specs.Pools.{potentialHeld, outliersHeld, poolsOf}
 use Rattle.placement.specs.Placing.{pooledAt, Ready}
 
 -- how many are seen
@@ -45,26 +42,20 @@ seen-more dim n k l m h e =
     ∙ ap (map (microIn dim)) (take-suc-set l n m h)
     ∙ map-append (microIn dim) (take n l) (m ∷ [])
 
-module _ (p : Params) (t : Float) (potential : List Micro) (potentialCount : ℕ) (outliers : List Micro) (outlierCount : ℕ) (labels : List ℤ) (drift : Monitor) where
-  abbrev d : ℕ
-  d = min (p .dim) maxDim
-
-  abbrev s : State
-  s = stateOf p t potential potentialCount outliers outlierCount labels drift
-
-  abbrev with : (potential outliers : List Micro) → (labels : List ℤ) → State
-  with a b l = record { params = s .params; t = t; potential = a; outliers = b; labels = l; drift = drift }
+module _ (d : ℕ) (potential : List Micro) (potentialCount : ℕ) (outliers : List Micro) (outlierCount : ℕ) where
+  abbrev s : Holdings
+  s = poolsOf d potential potentialCount outliers outlierCount
 
   -- one absorbs where it is
   module _ (target : Target) (place : ℕ) (m : Micro) where
-    pub potential-absorbs : target ≡ Potential → stateOf p t (set potential place m) potentialCount outliers outlierCount [] drift ≡ pooledAt target place (microIn d m) s
+    pub potential-absorbs : target ≡ Potential → poolsOf d (set potential place m) potentialCount outliers outlierCount ≡ pooledAt target place (microIn d m) s
     potential-absorbs e =
-        ap (λ (l : List Micro). with l (s .outliers) []) (seen-set d (potentialHeld potentialCount) potential place m)
+        ap (λ (l : List Micro). pooled l (s .outliers)) (seen-set d (potentialHeld potentialCount) potential place m)
         ∙ ap (λ (u : Target). pooledAt u place (microIn d m) s) (sym e)
 
-    pub outlier-absorbs : target ≡ Outlier → stateOf p t potential potentialCount (set outliers place m) outlierCount [] drift ≡ pooledAt target place (microIn d m) s
+    pub outlier-absorbs : target ≡ Outlier → poolsOf d potential potentialCount (set outliers place m) outlierCount ≡ pooledAt target place (microIn d m) s
     outlier-absorbs e =
-        ap (λ (l : List Micro). with (s .potential) l []) (seen-set d (outliersHeld potentialCount outlierCount) outliers place m)
+        ap (pooled (s .potential)) (seen-set d (outliersHeld potentialCount outlierCount) outliers place m)
         ∙ ap (λ (u : Target). pooledAt u place (microIn d m) s) (sym e)
 
     module _ (r : Ready target place s) where
@@ -110,12 +101,12 @@ module _ (p : Params) (t : Float) (potential : List Micro) (potentialCount : ℕ
 
       pub promotes :
           target ≡ Promotion → (rest : Pool) → held rest ≡ without place (take ko outliers) → rest .count ≡ length (held rest) →
-          stateOf p t (set potential np m) (np + 1) (rest .micros) (rest .count) [] drift ≡ pooledAt target place (microIn d m) s
+          poolsOf d (set potential np m) (np + 1) (rest .micros) (rest .count) ≡ pooledAt target place (microIn d m) s
       promotes e rest el cl =
           let q : place < ko = promotion-place e in
           let a : length (without place (take ko outliers)) + 1 ≡ length (take ko outliers) = without-length place (take ko outliers) (omega (arith, o-size)) in
           let b : rest .count ≡ length (without place (take ko outliers)) = cl ∙ ap length el in
-          ap₂ (λ (x y : List Micro). with x y [])
+          ap₂ pooled
           (seen-more d np (potentialHeld (np + 1)) potential m (omega arith) (omega arith) ∙ ap (λ (l : List Micro). l ++ microIn d m ∷ []) p-seen)
           (ap (λ (n : ℕ). seen d n (rest .micros)) (let c : outliersHeld (np + 1) (rest .count) ≡ rest .count = omega (arith, o-size) in c)
           ∙ ap (map (microIn d)) el ∙ map-without (microIn d) place (take ko outliers) ∙ ap (without place) o-seen)
@@ -127,22 +118,23 @@ module _ (p : Params) (t : Float) (potential : List Micro) (potentialCount : ℕ
           let w : length (s .potential) + length (s .outliers) < 64 = subst (λ (u : Target). Ready u place s) e r in
           omega (arith, w, p-length, o-length)
 
-      pub comes : target ≡ Newborn → stateOf p t potential potentialCount (set outliers ko m) (ko + 1) [] drift ≡ pooledAt target place (microIn d m) s
+      pub comes : target ≡ Newborn → poolsOf d potential potentialCount (set outliers ko m) (ko + 1) ≡ pooledAt target place (microIn d m) s
       comes e =
-          ap (λ (l : List Micro). with (s .potential) l [])
+          ap (pooled (s .potential))
           (seen-more d ko (outliersHeld potentialCount (ko + 1)) outliers m (omega (arith, newborn-low e)) (omega (arith, newborn-low e)) ∙ ap (λ (l : List Micro). l ++ microIn d m ∷ []) o-seen)
           ∙ ap (λ (u : Target). pooledAt u place (microIn d m) s) (sym e)
 
     -- a pruning of both pools
     pub prunes :
-        (a b : Pool) → held a ≡ retain (potentialStays p t) (take np potential) → a .count ≡ length (held a) → held b ≡ retain (outlierStays p t) (take ko outliers) → b .count ≡ length (held b) →
-        stateOf p t (a .micros) (a .count) (b .micros) (b .count) labels drift ≡ pruned s
-    prunes a b ea ca eb cb =
+        (p : Params) (t : Float) (a b : Pool) → held a ≡ retain (potentialStays p t) (take np potential) → a .count ≡ length (held a) →
+        held b ≡ retain (outlierStays p t) (take ko outliers) → b .count ≡ length (held b) →
+        poolsOf d (a .micros) (a .count) (b .micros) (b .count) ≡ pruned p t s
+    prunes p t a b ea ca eb cb =
         let n1 : a .count ≡ length (retain (potentialStays p t) (take np potential)) = ca ∙ ap length ea in
         let n2 : b .count ≡ length (retain (outlierStays p t) (take ko outliers)) = cb ∙ ap length eb in
         let i : a .count ≤ np = omega (arith, n1, p-size, retain-length (potentialStays p t) (take np potential)) in
         let j : b .count ≤ ko = omega (arith, n2, o-size, retain-length (outlierStays p t) (take ko outliers)) in
-        ap₂ (λ (x y : List Micro). with x y labels)
+        ap₂ pooled
         (ap (λ (n : ℕ). seen d n (a .micros)) (let c : potentialHeld (a .count) ≡ a .count = omega arith in c)
         ∙ ap (map (microIn d)) ea ∙ map-retain (microIn d) (potentialStays p t) (take np potential) ∙ ap (retain (potentialStays p t)) p-seen)
         (ap (λ (n : ℕ). seen d n (b .micros)) (let c : outliersHeld (a .count) (b .count) ≡ b .count = omega arith in c)

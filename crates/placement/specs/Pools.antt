@@ -7,7 +7,7 @@ use Rattle.drift.specs.Monitor.{Monitor}
 use Rattle.model.specs.declared.micro.Micro.{Micro}
 use Rattle.model.specs.declared.params.Params.{Params}
 use Rattle.model.specs.Limits.{microsMost}
-use Rattle.model.specs.DenState.{State}
+use Rattle.model.specs.DenState.{Holdings, pooled, State}
 use Rattle.pool.specs.Held.{dimOf, settledOf, seen}
 
 -- how many are held: never more than 64 in both pools together
@@ -17,14 +17,11 @@ potentialHeld potential = min potential microsMost
 abbrev pub outliersHeld : (potential outliers : ℕ) → ℕ
 outliersHeld potential outliers = min outliers (microsMost - potentialHeld potential)
 
--- the pools of an array and a count each
-abbrev pub potentialIn : Params → List Micro → (potential : ℕ) → List Micro
-potentialIn p l potential = seen (dimOf p) (potentialHeld potential) l
+-- what is held in these arrays; and the stream that keeps it
+abbrev pub poolsOf : (dim : ℕ) → (potential : List Micro) → (potentialCount : ℕ) → (outliers : List Micro) → (outlierCount : ℕ) → Holdings
+poolsOf dim potential potentialCount outliers outlierCount =
+    pooled (seen dim (potentialHeld potentialCount) potential) (seen dim (outliersHeld potentialCount outlierCount) outliers)
 
-abbrev pub outliersIn : Params → List Micro → (potential outliers : ℕ) → List Micro
-outliersIn p l potential outliers = seen (dimOf p) (outliersHeld potential outliers) l
-
--- the stream that keeps this
 abbrev pub stateOf :
     Params → (t : Float) → (potential : List Micro) → (potentialCount : ℕ) → (outliers : List Micro) → (outlierCount : ℕ) →
     (labels : List ℤ) → Monitor → State
@@ -32,8 +29,7 @@ stateOf p t potential potentialCount outliers outlierCount labels drift =
     record {
       params = settledOf p;
       t = t;
-      potential = potentialIn p potential potentialCount;
-      outliers = outliersIn p outliers potentialCount outlierCount;
+      held = poolsOf (dimOf p) potential potentialCount outliers outlierCount;
       labels = labels;
       drift = drift;
     }

@@ -10,7 +10,7 @@ ghost use mathlib.Core.Path.{_≡_};
 ghost use lib.ListN.{take};
 ghost use Rattle.model.specs.DenInsert.{smallerOf};
 ghost use Rattle.pool.specs.Held.{dimOf, settledOf};
-ghost use Rattle.placement.specs.Pools.{potentialIn, outliersIn};
+ghost use Rattle.placement.specs.Pools.{poolsOf};
 ghost use Rattle.placement.specs.Placing.{takes, grownTo, placementOf, placementTold};
 
 // What a point does to the pools: a potential one absorbs it; an outlier does, and moves to the potential ones or
@@ -98,8 +98,8 @@ pub fn place(
     x: [f64; MAX_DIM],
 ) -> Placement
     ensures { λ r. ⌜ placementTold (dimOf params) r
-        ≡ placementOf (settledOf params) t (potentialIn params potential «potential_count»)
-        (outliersIn params outliers «potential_count» «outlier_count») (take (dimOf params) x) ⌝ }
+        ≡ placementOf (settledOf params) t (poolsOf (dimOf params) potential «potential_count» outliers «outlier_count»)
+        (take (dimOf params) x) ⌝ }
 {
     let np = potential_held(potential_count);
     let p = pool::try_merge(potential, np, params, t, x);

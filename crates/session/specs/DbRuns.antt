@@ -3,22 +3,19 @@ use Prim.Native.Nat.{ℕ}
 use mathlib.Core.Path.{_≡_}
 use mathlib.Core.List.{List}
 use lib.Ieee.{Float}
-use Rattle.model.specs.DbState.{Settings, State, asked, fresh, unopened, openOf}
-use Rattle.model.specs.DbInsert.{insertOf}
-use Rattle.model.specs.DbCluster.{clusterOf}
-use Rattle.claims.specs.DbClaims.{LabelsTellFamilies, OneStream, after}
+use Rattle.model.specs.DbState.{Settings, State}
+use Rattle.model.specs.Dbstream.{dbstream, openOf, insertOf, clusterOf}
+use Rattle.claims.specs.DbClaims.{LabelsTellFamilies, OneStream}
 use Rattle.session.specs.Points.{pointsOf}
 use Rattle.session.specs.Whole.{Session, sessionOf}
 use Rattle.session.specs.Runs as runs
 use Rattle.session.specs.Demand3.{demand-3}
 
 abbrev pub RunTold : Settings → List (List Float) → State → Type 0
-RunTold = runs.RunTold asked (λ (p : Settings) (xs : List (List Float)). clusterOf (after p xs)) LabelsTellFamilies OneStream
+RunTold = runs.RunTold dbstream LabelsTellFamilies OneStream
 
 pub both-told :
     (p : Settings) (lengths : List ℕ) (values : List Float) (lent : List ℕ) (o : Session State) →
     o ≡ sessionOf insertOf clusterOf (openOf p) (pointsOf lengths values) lent →
     (o ≡ sessionOf insertOf clusterOf (openOf p) (pointsOf lengths values) lent) × (o .number ≡ 0 → RunTold p (pointsOf lengths values) (o .stream))
-both-told =
-    runs.both-told asked insertOf clusterOf fresh unopened LabelsTellFamilies OneStream
-    (λ p h xs. let d = demand-3 .dbstream .one p h xs in (d, d .labels))
+both-told = runs.both-told dbstream LabelsTellFamilies OneStream (λ p h xs. let d = demand-3 .dbstream .one p h xs in (d, d .labels))

@@ -3,22 +3,19 @@ use Prim.Native.Nat.{ℕ}
 use mathlib.Core.Path.{_≡_}
 use mathlib.Core.List.{List}
 use lib.Ieee.{Float}
-use Rattle.model.specs.DenState.{Settings, State, asked, fresh, unopened, openOf}
-use Rattle.model.specs.DenInsert.{insertOf}
-use Rattle.model.specs.DenCluster.{clusterOf}
-use Rattle.claims.specs.DenClaims.{LabelsTellGroups, OneStream, after}
+use Rattle.model.specs.DenState.{Settings, State}
+use Rattle.model.specs.Denstream.{denstream, openOf, insertOf, clusterOf}
+use Rattle.claims.specs.DenClaims.{LabelsTellGroups, OneStream}
 use Rattle.session.specs.Points.{pointsOf}
 use Rattle.session.specs.Whole.{Session, sessionOf}
 use Rattle.session.specs.Runs as runs
 use Rattle.session.specs.Demand3.{demand-3}
 
 abbrev pub RunTold : Settings → List (List Float) → State → Type 0
-RunTold = runs.RunTold asked (λ (p : Settings) (xs : List (List Float)). clusterOf (after p xs)) LabelsTellGroups OneStream
+RunTold = runs.RunTold denstream LabelsTellGroups OneStream
 
 pub both-told :
     (p : Settings) (lengths : List ℕ) (values : List Float) (lent : List ℕ) (o : Session State) →
     o ≡ sessionOf insertOf clusterOf (openOf p) (pointsOf lengths values) lent →
     (o ≡ sessionOf insertOf clusterOf (openOf p) (pointsOf lengths values) lent) × (o .number ≡ 0 → RunTold p (pointsOf lengths values) (o .stream))
-both-told =
-    runs.both-told asked insertOf clusterOf fresh unopened LabelsTellGroups OneStream
-    (λ p h xs. let d = demand-3 .denstream .one p h xs in (d, d .labels))
+both-told = runs.both-told denstream LabelsTellGroups OneStream (λ p h xs. let d = demand-3 .denstream .one p h xs in (d, d .labels))

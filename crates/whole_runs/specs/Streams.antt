@@ -5,23 +5,21 @@ use lib.Ieee.{Float}
 use lib.ListN.{length}
 use Rattle.drift.specs.Monitor.{reportOf}
 use Rattle.model.specs.DbState as db
-use Rattle.model.specs.DbInsert as db-insert
-use Rattle.model.specs.DbCluster as db-cluster
+use Rattle.model.specs.Dbstream.{dbstream}
 use Rattle.model.specs.DenState as den
-use Rattle.model.specs.DenInsert as den-insert
-use Rattle.model.specs.DenCluster as den-cluster
+use Rattle.model.specs.Denstream.{denstream}
 use Rattle.model.specs.ReadOut.{clustersIn}
 use Rattle.whole_runs.specs.declared.figures.Figures.{Figures}
 use Rattle.whole_runs.specs.Told.{Told, figures, runTold}
 
 abbrev pub dbstreamFigures : ℕ → db.State → Figures
-dbstreamFigures number s = figures number (length (s .micros)) (clustersIn (s .labels)) (reportOf (s .drift))
+dbstreamFigures number s = figures number (length (s .held .micros)) (clustersIn (s .labels)) (reportOf (s .drift))
 
 abbrev pub dbstreamRun : db.Settings → (points : List (List Float)) → (rounds : ℕ) → (lent : List ℕ) → Told
-dbstreamRun p = runTold db-insert.insertOf db-cluster.clusterOf dbstreamFigures (db.openOf p)
+dbstreamRun = runTold dbstream dbstreamFigures
 
 abbrev pub denstreamFigures : ℕ → den.State → Figures
-denstreamFigures number s = figures number (length (s .potential)) (clustersIn (s .labels)) (reportOf (s .drift))
+denstreamFigures number s = figures number (length (s .held .potential)) (clustersIn (s .labels)) (reportOf (s .drift))
 
 abbrev pub denstreamRun : den.Settings → (points : List (List Float)) → (rounds : ℕ) → (lent : List ℕ) → Told
-denstreamRun p = runTold den-insert.insertOf den-cluster.clusterOf denstreamFigures (den.openOf p)
+denstreamRun = runTold denstream denstreamFigures

@@ -3,7 +3,7 @@ use Prim.Native.Nat.{ℕ, zero, suc}
 use mathlib.Core.List.{List}
 use lib.Ieee.{Float}
 use Rattle.drift.specs.declared.DriftReport.{DriftReport}
-use Rattle.model.specs.Outcome.{Opened, Outcome}
+use Rattle.model.specs.Stream.{State, Kind, openOf, insertOf, clusterOf}
 use Rattle.session.specs.Whole.{sessionOf}
 use Rattle.whole_runs.specs.declared.figures.Figures.{Figures}
 
@@ -33,8 +33,7 @@ told f numbers = record { figures = f; numbers = numbers }
 
 -- the run of `session`; its stream is clustered so many times more, and read out
 abbrev pub runTold :
-    {S : Type 0} (insert : S → List Float → Outcome S) (cluster : S → S) (read : ℕ → S → Figures) →
-    Opened S → (points : List (List Float)) → (rounds : ℕ) → (lent : List ℕ) → Told
-runTold insert cluster read o points rounds lent =
-    let run = sessionOf insert cluster o points lent in
-    told (read (run .number) (iterate cluster rounds (run .stream))) (run .numbers)
+    {S P H : Type 0} (k : Kind S P H) (read : ℕ → State P H → Figures) → S → (points : List (List Float)) → (rounds : ℕ) → (lent : List ℕ) → Told
+runTold k read p points rounds lent =
+    let run = sessionOf (insertOf k) (clusterOf k) (openOf k p) points lent in
+    told (read (run .number) (iterate (clusterOf k) rounds (run .stream))) (run .numbers)

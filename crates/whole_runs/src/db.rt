@@ -2,7 +2,7 @@
 use crate::figures::Figures;
 use dbstream::DbStream;
 ghost use mathlib.Core.Path.{_≡_};
-ghost use Rattle.model.specs.DbCluster.{clusterOf};
+ghost use Rattle.model.specs.Dbstream.{clusterOf};
 ghost use Rattle.dbstream.specs.Stream.{view, settings};
 ghost use Rattle.session.specs.Points.{pointsOf};
 ghost use Rattle.whole_runs.specs.Told.{iterate, told};

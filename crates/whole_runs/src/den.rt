@@ -2,7 +2,7 @@
 use crate::figures::Figures;
 use denstream::DenStream;
 ghost use mathlib.Core.Path.{_≡_};
-ghost use Rattle.model.specs.DenCluster.{clusterOf};
+ghost use Rattle.model.specs.Denstream.{clusterOf};
 ghost use Rattle.denstream.specs.View.{view};
 ghost use Rattle.session.specs.Points.{pointsOf};
 ghost use Rattle.session.specs.DenTold.{settings};

@@ -1,5 +1,5 @@
 use mathlib.Core.Path.{sym, _∙_}
-use Rattle.model.specs.DbState.{asked}
+use Rattle.model.specs.Stream.{asked}
 use Rattle.dbstream.specs.Stream.{view, settings}
 use Rattle.dbstream.proofs.Openings.{opens, stays-shut, both}
 use borrow.Author.Needs.{needs}

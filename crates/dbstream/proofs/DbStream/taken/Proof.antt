@@ -5,7 +5,7 @@ use mathlib.Core.Bool.{true≢false}
 use borrow.Author.Tests.{not-true, not-false}
 use lib.ListN.{length, take, set, length-map, length-set}
 use Rattle.model.specs.DbState.{State}
-use Rattle.model.specs.DbInsert.{tickOf}
+use Rattle.model.specs.Dbstream.{tickOf}
 use Rattle.model.specs.InsertLaws.{when-done, when-refused}
 use Rattle.neighbours.specs.declared.absorption.Placed.{Placed}
 use Rattle.gains.specs.Passing.{Passing, Kept, toGo, starts, stepped, ends}

@@ -2,7 +2,8 @@ use mathlib.Core.Path.{sym, _∙_}
 use native.Mathlib.Omega.{arith}
 use lib.ListN.{take, length-map}
 use Rattle.model.specs.InsertLaws.{point-is, given-back}
-use Rattle.model.specs.NumberLaws.{db-insertion-said}
+use Rattle.model.specs.NumberLaws.{insertion-said}
+use Rattle.model.specs.Dbstream.{dbstream}
 use Rattle.dbstream.specs.Stream.{view}
 use Rattle.dbstream.proofs.Inserts.{Met, few, inserted}
 use borrow.Author.Needs.{needs}
@@ -56,7 +57,7 @@ returns c =
     let done = c .before .is-done in
     let g = e .before .before .before .before .before .args in
     let told = inserted m (a .result) (place .result) (place .ensures) (a .ensures) (done .result) _ (done .ensures) (c .taken .ensures .0) in
-    (told, (given-back (a .result) (done .result) _ _ (done .ensures) (c .taken .ensures .1), db-insertion-said (view (g .self)) (g .x .now) _ told))
+    (told, (given-back (a .result) (done .result) _ _ (done .ensures) (c .taken .ensures .1), insertion-said dbstream (view (g .self)) (g .x .now) _ told))
 
 pub try-insert-spec : {M : Type 1} → statement M
 try-insert-spec =

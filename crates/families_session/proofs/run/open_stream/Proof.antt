@@ -2,7 +2,7 @@
 use mathlib.Core.Path.{_∙_, ap}
 use borrow.Author.Needs.{needs}
 use Rattle.families_session.proofs.Inputs.{settings-are}
-use Rattle.model.specs.DbState.{openOf}
+use Rattle.model.specs.Dbstream.{openOf}
 use Rattle.families_session.proofs.run.open_stream.Statement.{statement}
 use Rattle.families_session.proofs.run.open_stream.Tie as tie
 

@@ -4,8 +4,7 @@ use mathlib.Core.List.{List}
 use Rattle.model.specs.Answers.{openingNumber}
 use Rattle.model.specs.Outcome.{Opened}
 use Rattle.model.specs.DbState.{State}
-use Rattle.model.specs.DbInsert.{insertOf}
-use Rattle.model.specs.DbCluster.{clusterOf}
+use Rattle.model.specs.Dbstream.{insertOf, clusterOf}
 use Rattle.dbstream.specs.Stream.{view, settings, openedTold}
 use Rattle.session.specs.Points.{pointsOf}
 use Rattle.session.specs.Whole.{Session, sessionOf}

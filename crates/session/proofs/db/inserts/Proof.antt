@@ -5,7 +5,7 @@ use lib.ListN.{length}
 use Rattle.model.specs.Answers.{insertionNumber}
 use Rattle.model.specs.Outcome.{Outcome}
 use Rattle.model.specs.DbState.{State}
-use Rattle.model.specs.DbInsert.{insertOf}
+use Rattle.model.specs.Dbstream.{insertOf}
 use Rattle.dbstream.specs.Stream.{view}
 use Rattle.session.specs.Going.{Going, going-start, going-on, going-end}
 use borrow.Author.Needs.{needs}

@@ -4,8 +4,7 @@ use mathlib.Core.List.{List}
 use Rattle.model.specs.Answers.{openingNumber}
 use Rattle.model.specs.Outcome.{Opened}
 use Rattle.model.specs.DenState.{State}
-use Rattle.model.specs.DenInsert.{insertOf}
-use Rattle.model.specs.DenCluster.{clusterOf}
+use Rattle.model.specs.Denstream.{insertOf, clusterOf}
 use Rattle.denstream.specs.View.{view, openedTold}
 use Rattle.session.specs.Points.{pointsOf}
 use Rattle.session.specs.Whole.{Session, sessionOf}

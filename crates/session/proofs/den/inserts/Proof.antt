@@ -5,7 +5,7 @@ use lib.ListN.{length}
 use Rattle.model.specs.Answers.{insertionNumber}
 use Rattle.model.specs.Outcome.{Outcome}
 use Rattle.model.specs.DenState.{State}
-use Rattle.model.specs.DenInsert.{insertOf}
+use Rattle.model.specs.Denstream.{insertOf}
 use Rattle.denstream.specs.View.{view}
 use Rattle.session.specs.Going.{Going, going-start, going-on, going-end}
 use borrow.Author.Needs.{needs}

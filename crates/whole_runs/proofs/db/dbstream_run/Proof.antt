@@ -1,4 +1,4 @@
-use Rattle.model.specs.DbCluster.{clusterOf}
+use Rattle.model.specs.Dbstream.{clusterOf}
 use Rattle.whole_runs.specs.Streams.{dbstreamFigures}
 use Rattle.whole_runs.specs.StreamLaws.{read-out}
 use borrow.Author.Needs.{needs}

@@ -1,6 +1,6 @@
 use native.Mathlib.Omega.{arith}
 use mathlib.Core.Path.{_≡_, refl, sym, _∙_}
-use Rattle.model.specs.DenCluster.{clusterOf}
+use Rattle.model.specs.Denstream.{clusterOf}
 use Rattle.denstream.specs.View.{view}
 use Rattle.whole_runs.specs.Told.{iterate}
 use Rattle.whole_runs.specs.StreamLaws.{iterate-next, iterate-end}

@@ -1,4 +1,4 @@
-use Rattle.model.specs.DenCluster.{clusterOf}
+use Rattle.model.specs.Denstream.{clusterOf}
 use Rattle.whole_runs.specs.Streams.{denstreamFigures}
 use Rattle.whole_runs.specs.StreamLaws.{read-out}
 use borrow.Author.Needs.{needs}

@@ -1,8 +1,9 @@
 -- `DenStream::pruned` meets its contract. Assumes nothing.
-use mathlib.Core.Path.{_≡_, sym, _∙_}
-use lib.ListN.{length, take, length-map}
+use Prim.Native.Nat.{min}
+use mathlib.Core.Path.{_≡_, sym, ap, _∙_}
+use lib.ListN.{length, length-map}
 use borrow.Author.Needs.{needs}
-use Rattle.drift.specs.Monitor as monitor
+use Rattle.model.specs.Stream.{holding}
 use Rattle.placement.specs.PoolLaws.{prunes}
 use Rattle.denstream.specs.View.{view}
 use Rattle.denstream.proofs.stream.DenStream.pruned.Statement.{statement}
@@ -29,7 +30,11 @@ returns c =
     let b = c .before .before .prune-outliers in
     let lp : length (s .potential) ≡ 64 = sym (length-map (s .potential) _) ∙ e .good .0 .1 .1 .1 .1 .0 .1 .0 .1 in
     let lo : length (s .outliers) ≡ 64 = sym (length-map (s .outliers) _) ∙ e .good .0 .1 .1 .1 .1 .1 .1 .0 .1 .0 .1 in
-    prunes (s .params) (s .t) (s .potential) (s .«potential_count») (s .outliers) (s .«outlier_count») (take (s .«label_count») (s .labels)) (monitor.view (s .drift)) lp lo _ (c .before .before .before .before .before .before .before .potential-held .ensures) _ (c .before .before .before .before .before .before .outliers-held .ensures) (a .result) (b .result) (a .ensures .0) (a .ensures .1) (b .ensures .0) (b .ensures .1)
+    ap (holding (view s))
+    (prunes (min (s .params .dim) 15) (s .potential) (s .«potential_count») (s .outliers) (s .«outlier_count») lp lo _
+    (c .before .before .before .before .before .before .before .potential-held .ensures) _
+    (c .before .before .before .before .before .before .outliers-held .ensures) (s .params) (s .t) (a .result) (b .result) (a .ensures .0) (a .ensures .1)
+    (b .ensures .0) (b .ensures .1))
 
 pub pruned-spec : {M : Type 1} → statement M
 pruned-spec =

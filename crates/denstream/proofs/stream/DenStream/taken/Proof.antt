@@ -7,13 +7,14 @@ use borrow.Author.Tests.{not-true, not-false}
 use borrow.Author.Needs.{needs}
 use lib.ListN.{length-map}
 use Rattle.model.specs.DenState.{State}
-use Rattle.model.specs.DenInsert.{tickOf}
+use Rattle.model.specs.Denstream.{tickOf}
 use Rattle.model.specs.InsertLaws.{when-done, when-refused}
 use Rattle.placement.specs.Placing.{takes}
 use Rattle.denstream.specs.declared.stream.DenStream.{DenStream}
 use Rattle.denstream.specs.View.{view}
 use Rattle.denstream.proofs.Ticks.{cleared}
-use Rattle.denstream.proofs.Places.{Counted, pooledIn, potential-low, outlier-low, promotion-low, newborn-low, to-potential, to-outlier, to-promotion, to-newborn}
+use Rattle.denstream.proofs.Places.{Counted, pooledIn, withPools, potential-low, outlier-low, promotion-low, newborn-low, to-potential, to-outlier}
+use Rattle.denstream.proofs.Places.{to-promotion, to-newborn}
 use Rattle.denstream.proofs.stream.DenStream.taken.Statement.{statement}
 use Rattle.denstream.proofs.stream.DenStream.taken.Tie as tie
 
@@ -21,7 +22,7 @@ returns : tie.Need-returns
 unfolding view
 returns c =
     let a = c .before .args in
-    (when-refused (a .done) (tickOf (pooledIn (a .t1) (a .p)) (a .p .near)) (view (a .t1)) (not-true _ (c .if1 .taken)), λ q. refl)
+    (when-refused (a .done) (tickOf (withPools (a .t1) (pooledIn (a .t1) (a .p))) (a .p .near)) (view (a .t1)) (not-true _ (c .if1 .taken)), λ q. refl)
 
 potential-held-requires : tie.Need-potential-held-requires
 potential-held-requires c κs = search needs
@@ -95,7 +96,10 @@ returns-2 c =
     absurd (true≢false (sym (c .before .before .before .before .before .before .pre .1 done) ∙ ap takes (c .enum-told5 .given .1)))
 
 -- where the ways meet, the point is at its target
-pooled : (c : tie.At-match-came) → view (cleared (c .match .self)) ≡ pooledIn (c .before .before .before .before .before .args .t1) (c .before .before .before .before .before .args .p)
+pooled :
+    (c : tie.At-match-came) → view (cleared (c .match .self))
+    ≡ withPools (c .before .before .before .before .before .args .t1)
+    (pooledIn (c .before .before .before .before .before .args .t1) (c .before .before .before .before .before .args .p))
 pooled c =
     let k = counted (c .before .before) in
     ⊎-elim (λ w. ap (λ (v : DenStream). view (cleared v)) (w .2) ∙ to-potential k (w .1 .given .1))
@@ -111,7 +115,7 @@ returns-3 : tie.Need-returns-3
 unfolding view
 returns-3 c =
     let a = c .before .before .before .before .before .before .args in
-    let s = pooledIn (a .t1) (a .p) in
+    let s = withPools (a .t1) (pooledIn (a .t1) (a .p)) in
     let done = not-false (a .done) (c .before .before .before .before .before .if1 .left) in (
       c .tick .ensures ∙ ap (λ (v : State). tickOf v (a .p .near)) (pooled (c .before)) ∙ when-done (a .done) (tickOf s (a .p .near)) (view (a .t1)) done,
       λ q. absurd (true≢false (sym done ∙ q)),

@@ -7,7 +7,8 @@ use borrow.Author.Needs.{needs}
 use Rattle.model.specs.Questions.{insertionAsked}
 use Rattle.denstream.specs.View.{view}
 use Rattle.model.specs.InsertLaws.{point-is, given-back}
-use Rattle.model.specs.NumberLaws.{den-insertion-said}
+use Rattle.model.specs.NumberLaws.{insertion-said}
+use Rattle.model.specs.Denstream.{denstream}
 use Rattle.denstream.proofs.Inserts.{Met, placing, room, inserted}
 use Rattle.denstream.proofs.stream.DenStream.try_insert.Statement.{statement}
 use Rattle.denstream.proofs.stream.DenStream.try_insert.Tie as tie
@@ -58,8 +59,13 @@ returns c =
     let m = met e in
     let done = c .before .is-done in
     let a = e .before .before .before .before .before .before .before .before .before .args in
-    let is = inserted m (done .result) (view (c .taken .result)) (done .ensures) (c .taken .ensures .0) in
-    (is, (given-back (e .insertion-asked .result) (done .result) (c .taken .result) _ (done .ensures) (c .taken .ensures .1), den-insertion-said (view (a .self)) (a .x .now) _ is))
+    let is = inserted m (done .result) (view (c .taken .result)) (done .ensures) (c .taken .ensures .0) in (
+      is,
+      (
+        given-back (e .insertion-asked .result) (done .result) (c .taken .result) _ (done .ensures) (c .taken .ensures .1),
+        insertion-said denstream (view (a .self)) (a .x .now) _ is,
+      ),
+    )
 
 pub try-insert-spec : {M : Type 1} → statement M
 try-insert-spec =
