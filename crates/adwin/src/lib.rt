@@ -38,6 +38,7 @@ pub enum Verdict {
 }
 
 impl Verdict {
+    // Whether the window shrank because its values changed.
     pub fn rings(self) -> bool
         ensures { λ r. ⌜ r ≡ rings self ⌝ }
     {

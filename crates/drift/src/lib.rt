@@ -34,6 +34,7 @@ pub struct DriftMonitor {
 impl DriftMonitor {
     pub const DELTA: f64 = 0.002;
 
+    // An empty window and no alarm; distances are counted in this radius.
     pub fn new(radius: f64) -> Self
         ensures { λ r. ⌜ view r ≡ newOf radius ⌝ }
     {
@@ -74,6 +75,7 @@ impl DriftMonitor {
         }
     }
 
+    // The alarms so far, the tick of the last, and the mean and width of the window.
     pub fn report(self) -> DriftReport
         ensures { λ r. ⌜ r ≡ reportOf (view self) ⌝ }
     {

@@ -44,6 +44,7 @@ impl Spherical {
         self
     }
 
+    // The weight and the spread fade by the factor f; the mean stays.
     pub fn decay(mut self, f: f64) -> Self
         ensures { λ r. ⌜ r ≡ decayed self f ⌝ }
     {
@@ -52,12 +53,14 @@ impl Spherical {
         self
     }
 
+    // How many points there are, as far as they have not faded.
     pub fn weight(self) -> f64
         ensures { λ r. ⌜ r ≡ self .w ⌝ }
     {
         self.w
     }
 
+    // The centre of the points.
     pub fn mean(self) -> [f64; MAX_DIM]
         ensures { λ r. ⌜ r ≡ self .mean ⌝ }
     {

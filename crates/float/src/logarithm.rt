@@ -54,6 +54,7 @@ pub fn ln(v: f64) -> f64
     v
 }
 
+// The logarithm to base 2: the natural one over L.
 pub fn log2(v: f64) -> f64
     ensures { λ r. ⌜ r ≡ log2Of v ⌝ }
 {

@@ -10,6 +10,7 @@ pub fn is_finite(x: f64) -> bool
     if x < inf { -inf < x } else { false }
 }
 
+// The larger; of a NaN and a number, the number.
 pub fn max(a: f64, b: f64) -> f64
     ensures { λ r. ⌜ r ≡ larger a b ⌝ }
 {
@@ -22,6 +23,7 @@ pub fn max(a: f64, b: f64) -> f64
     }
 }
 
+// The smaller; of a NaN and a number, the number.
 pub fn min(a: f64, b: f64) -> f64
     ensures { λ r. ⌜ r ≡ smaller a b ⌝ }
 {

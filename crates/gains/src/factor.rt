@@ -9,6 +9,7 @@ pub struct Factor {
 }
 
 impl Factor {
+    // The fade from last to t, with the clock that it is from.
     pub fn new(lambda: f64, t: f64, last: f64) -> Factor
         ensures { λ r. ⌜ r ≡ factorOf lambda t last ⌝ }
     {

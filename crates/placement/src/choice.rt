@@ -88,6 +88,7 @@ fn grown(m: Micro, bm: f64) -> Target
     Target::Outlier
 }
 
+// The potential pool is tried first, then the outliers; else the point is a new outlier, where there is a place.
 pub fn place(
     potential: [Micro; MICROS],
     potential_count: usize,

@@ -7,6 +7,7 @@ ghost use Rattle.feature.specs.Feature.{maxDim};
 ghost use Rattle.model.specs.DenInsert.{fadedWeight};
 ghost use Rattle.model.specs.DenInsert as doc;
 
+// The stored weight, faded from its last change to t.
 pub fn faded_weight(m: Micro, lambda: f64, t: f64) -> f64
     ensures { λ r. ⌜ r ≡ fadedWeight lambda t m ⌝ }
 {

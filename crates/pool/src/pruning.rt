@@ -25,6 +25,7 @@ fn outlier_stays(m: Micro, params: Params, t: f64) -> bool
     needs <= faded_weight(m, params.lambda, t)
 }
 
+// Those whose faded weight reaches bm, in order.
 pub fn prune_potential(mut pool: [Micro; MICROS], n: usize, params: Params, t: f64) -> Pool
     ensures { λ r. ⌜ held r ≡ retain (potentialStays params t) (take n pool) ⌝ }
     ensures counted { λ r. ⌜ r .count ≡ length (held r) ⌝ }
@@ -46,6 +47,7 @@ pub fn prune_potential(mut pool: [Micro; MICROS], n: usize, params: Params, t: f
     }
 }
 
+// Those whose faded weight is what their age asks for, or more, in order.
 pub fn prune_outliers(mut pool: [Micro; MICROS], n: usize, params: Params, t: f64) -> Pool
     ensures { λ r. ⌜ held r ≡ retain (outlierStays params t) (take n pool) ⌝ }
     ensures counted { λ r. ⌜ r .count ≡ length (held r) ⌝ }

@@ -23,6 +23,7 @@ pub struct Trial {
     pub micro: Micro,
 }
 
+// A copy of the nearest of the first n absorbs the point; without a nearest, the point stands alone at place 0.
 pub fn try_merge(
     pool: [Micro; MICROS],
     n: usize,

@@ -10,6 +10,7 @@ pub struct Text {
     pub len: usize,
 }
 
+// By the bits, so that no digit is lost; every NaN has one text.
 pub fn double_text(x: f64) -> Text
     ensures { λ r. ⌜ take (r .len) (r .bytes) ≡ doubleText x ⌝ }
     ensures { λ r. ⌜ Counts (r .len) (r .bytes) ⌝ }
