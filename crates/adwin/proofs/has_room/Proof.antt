@@ -1,3 +1,4 @@
+-- `has_room` meets its contract. Assumes nothing.
 use borrow.Author.Tests.{lt-ltb, le-ltb}
 use Rattle.adwin.proofs.has_room.Statement.{statement}
 use Rattle.adwin.proofs.has_room.Tie as tie

@@ -1,3 +1,4 @@
+-- `variance_with` meets its contract. Assumes nothing.
 use Rattle.adwin.proofs.variance_with.Statement.{statement}
 use Rattle.adwin.proofs.variance_with.Tie as tie
 

@@ -1,3 +1,4 @@
+-- `variance_without` meets its contract. Assumes nothing.
 use borrow.Author.Needs.{needs}
 use Rattle.adwin.proofs.variance_without.Statement.{statement}
 use Rattle.adwin.proofs.variance_without.Tie as tie

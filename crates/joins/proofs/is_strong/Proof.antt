@@ -1,3 +1,4 @@
+-- `is_strong` meets its contract. Assumes nothing.
 use mathlib.Core.Path.{sym}
 use mathlib.Core.Bool.{false}
 use native.Mathlib.Omega.{arith}

@@ -1,3 +1,4 @@
+-- `joins` meets its contract. Assumes nothing.
 use mathlib.Core.Path.{sym, _∙_}
 use borrow.Author.Needs.{needs}
 use Rattle.joins.proofs.joins.Statement.{statement}

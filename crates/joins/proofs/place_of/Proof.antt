@@ -1,3 +1,4 @@
+-- `place_of` meets its contract. Assumes nothing.
 use Prim.Native.Nat.{suc, _+_, _≤_, _-_}
 use mathlib.Core.Path.{_≡_, ap, _∙_}
 use mathlib.Core.List.{List}

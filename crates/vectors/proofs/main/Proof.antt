@@ -1,3 +1,4 @@
+-- `main` is safe, and its loop ends.
 use borrow.Author.Needs.{needs}
 use Rattle.vectors.proofs.main.Statement.{statement}
 use Rattle.vectors.proofs.main.Tie as tie

@@ -1,3 +1,4 @@
+-- `Adwin::drop_oldest` meets its contract. Assumes nothing.
 use Rattle.adwin.proofs.Gap.{Closing, closing-starts, closing-steps}
 use Rattle.adwin.proofs.Drops.{dropped-is}
 use Rattle.adwin.specs.Settings.{places}

@@ -1,3 +1,4 @@
+-- `Adwin::must_drop` meets its contract. Assumes nothing.
 use Rattle.adwin.specs.Settings.{places}
 use Rattle.adwin.proofs.Drops.{must-is}
 use Rattle.adwin.specs.Cut.{gOf}

@@ -1,3 +1,4 @@
+-- `Adwin::push_bucket` meets its contract. Assumes nothing.
 use Rattle.adwin.proofs.Gap.{Closing, closing-starts, closing-steps}
 use Rattle.adwin.proofs.Walk.{Carrying, walk-starts, walk-stops, walk-goes-on, walk-merges, walk-ends}
 use Rattle.adwin.specs.Settings.{places}

@@ -1,3 +1,4 @@
+-- `Adwin::shrink` meets its contract. Assumes nothing.
 use Rattle.adwin.proofs.Drops.{Searching, search-starts, search-goes-on, search-ends, some-held}
 use Rattle.adwin.specs.View.{classed, sumsOf, view}
 use mathlib.Core.Path.{sym, _∙_}

@@ -1,3 +1,4 @@
+-- `Adwin::update` meets its contract. Assumes nothing.
 use Rattle.adwin.proofs.Updates.{Pushed, unsearched, searched}
 use Rattle.adwin.proofs.Room.{room-is, has-place}
 use Rattle.adwin.specs.Cases.{not-finite, no-room, room-taken}

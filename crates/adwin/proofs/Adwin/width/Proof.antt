@@ -1,3 +1,4 @@
+-- `Adwin::width` meets its contract. Assumes nothing.
 use lib.Ieee.{ofBits}
 use native.Mathlib.Omega.{arith}
 use Rattle.float.specs.Cutting.{can-cut}

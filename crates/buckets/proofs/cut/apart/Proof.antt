@@ -1,3 +1,4 @@
+-- `apart` meets its contract. Assumes nothing.
 use Rattle.buckets.proofs.cut.apart.Statement.{statement}
 use Rattle.buckets.proofs.cut.apart.Tie as tie
 

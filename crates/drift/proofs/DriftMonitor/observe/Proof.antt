@@ -1,3 +1,4 @@
+-- `DriftMonitor::observe` meets its contract. Assumes nothing.
 use Rattle.drift.proofs.Hearing.{rang, silent, never}
 use Rattle.drift.specs.Monitor.{view, observeOf}
 use Rattle.drift.specs.declared.Nearest.{Nearest}

@@ -1,3 +1,4 @@
+-- `fade` meets its contract. Assumes nothing.
 use mathlib.Core.Path.{refl}
 use borrow.Author.Needs.{needs}
 use Rattle.feature.specs.Fade.{fade-is-share}

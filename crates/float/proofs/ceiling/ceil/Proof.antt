@@ -1,3 +1,4 @@
+-- `ceil` meets its contract. Assumes nothing.
 use mathlib.Core.Path.{_≡_, sym, _∙_, subst}
 use native.Mathlib.Omega.{arith}
 use Prim.Native.Nat.{_+_, _<_, _^_}

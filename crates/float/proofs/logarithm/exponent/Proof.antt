@@ -1,3 +1,4 @@
+-- `exponent` meets its contract. Assumes nothing.
 use mathlib.Core.Path.{sym, subst}
 use native.Mathlib.Omega.{arith}
 use lib.Dec.{T}

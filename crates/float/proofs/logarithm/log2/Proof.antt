@@ -1,3 +1,4 @@
+-- `log2` meets its contract. Assumes nothing.
 use borrow.Author.Needs.{needs}
 use Rattle.float.specs.Ln.{log2Of}
 use Rattle.float.proofs.logarithm.log2.Statement.{statement}

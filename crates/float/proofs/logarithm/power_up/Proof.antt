@@ -1,3 +1,4 @@
+-- `power_up` meets its contract. Assumes nothing.
 use borrow.Author.Needs.{needs}
 use Rattle.float.proofs.PowerBits.{power-up-bits, power-up-no-nan}
 use Rattle.float.proofs.logarithm.power_up.Statement.{statement}

@@ -1,3 +1,4 @@
+-- `is_finite` meets its contract. Assumes nothing.
 use mathlib.Core.Path.{sym}
 use lib.Ieee.{ofBits, neg, nanBits}
 use Rattle.float.proofs.Tests.{finite-low, finite-high}

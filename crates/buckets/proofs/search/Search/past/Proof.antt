@@ -1,3 +1,4 @@
+-- `Search::past` meets its contract. Assumes nothing.
 use Rattle.buckets.specs.Inside.{pastIf}
 use mathlib.Core.Path.{sym, ap, _∙_}
 use mathlib.Core.Bool.{Bool}

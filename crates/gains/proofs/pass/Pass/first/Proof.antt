@@ -1,3 +1,4 @@
+-- `Pass::first` meets its contract. Assumes nothing.
 use borrow.Author.Needs.{needs}
 use Rattle.gains.proofs.pass.Pass.first.Statement.{statement}
 use Rattle.gains.proofs.pass.Pass.first.Tie as tie

@@ -1,3 +1,4 @@
+-- `Pass::inserted` meets its contract. Assumes nothing.
 use mathlib.Core.Path.{sym, _∙_}
 use borrow.Author.Tests.{lt-ltb, le-ltb}
 use Rattle.gains.specs.Factor.{gain-by}

@@ -1,3 +1,4 @@
+-- `Pass::next` meets its contract. Assumes nothing.
 use borrow.Author.Needs.{needs}
 use Rattle.gains.proofs.pass.Pass.next.Statement.{statement}
 use Rattle.gains.proofs.pass.Pass.next.Tie as tie

@@ -1,3 +1,4 @@
+-- `Pass::place` meets its contract. Assumes nothing.
 use mathlib.Core.Path.{sym, _∙_}
 use borrow.Author.Needs.{needs}
 use Rattle.gains.proofs.pass.Pass.place.Statement.{statement}

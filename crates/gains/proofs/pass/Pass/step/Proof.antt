@@ -1,3 +1,4 @@
+-- `Pass::step` meets its contract. Assumes nothing.
 use mathlib.Core.Path.{refl}
 use Rattle.gains.proofs.Passes.{stepped}
 use borrow.Author.Needs.{needs}

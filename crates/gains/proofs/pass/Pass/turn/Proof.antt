@@ -1,3 +1,4 @@
+-- `Pass::turn` meets its contract. Assumes nothing.
 use mathlib.Core.Path.{sym, _∙_}
 use mathlib.Core.Logic.{inl, inr, ⊎-elim}
 use Rattle.gains.proofs.Passes.{carried-turn, passed-turn, gained-turn, inserted-turn}
