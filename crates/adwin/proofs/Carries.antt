@@ -67,7 +67,9 @@ pair-drop j (x ∷ []) h = absurd (omega arith)
 pair-drop zero (x ∷ y ∷ l) h = refl
 pair-drop (suc j) (x ∷ y ∷ l) h = pair-drop j (y ∷ l) (omega arith)
 
-pair-is : (j : ℕ) (l : List Classed) (v : Classed) → suc j < length l → v ≡ pairOf (getD l j nothing) (getD l (suc j) nothing) → without (suc j) (set l j v) ≡ pairMerged j l
+pair-is :
+    (j : ℕ) (l : List Classed) (v : Classed) → suc j < length l → v ≡ pairOf (getD l j nothing) (getD l (suc j) nothing) →
+    without (suc j) (set l j v) ≡ pairMerged j l
 unfolding pairMerged without
 pair-is j [] v h e = absurd (omega arith)
 pair-is j (x ∷ []) v h e = absurd (omega arith)
@@ -106,7 +108,8 @@ module _ (k i j : ℕ) (l : List Classed) (e : i ≡ j + 1) (h : i < length l) w
   settled-pair n m =
       let q : suc j < length l = omega arith in
       let p = pairMerged j l in
-      let g : pairOf (getD l j nothing) (getD l i nothing) ≡ getD p j nothing = ap (λ (n : ℕ). pairOf (getD l j nothing) (getD l n nothing)) (e ∙ add-one j) ∙ sym (pair-get j l q) in
+      let g : pairOf (getD l j nothing) (getD l i nothing) ≡ getD p j nothing =
+      ap (λ (n : ℕ). pairOf (getD l j nothing) (getD l n nothing)) (e ∙ add-one j) ∙ sym (pair-get j l q) in
       let t : take j l ≡ take j p = sym (pair-take j l) in
       let r : drop (i + 1) l ≡ drop (j + 1) p =
       ap (λ (n : ℕ). drop n l) (add-one i ∙ ap suc (e ∙ add-one j)) ∙ sym (pair-drop j l q) ∙ ap (λ (n : ℕ). drop n p) (sym (add-one j)) in

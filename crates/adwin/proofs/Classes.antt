@@ -21,7 +21,9 @@ classed-length [] (b ∷ bs) h = absurd (omega arith)
 classed-length (c ∷ cs) [] h = absurd (omega arith)
 classed-length (c ∷ cs) (b ∷ bs) h = ap suc (classed-length cs bs (omega arith))
 
-pub classed-getD : (cs : List ℕ) (bs : List Bucket) (i : ℕ) (d : Bucket) → length cs ≡ length bs → getD (classed cs bs) i (with-class 0 d) ≡ with-class (getD cs i 0) (getD bs i d)
+pub classed-getD :
+    (cs : List ℕ) (bs : List Bucket) (i : ℕ) (d : Bucket) → length cs ≡ length bs →
+    getD (classed cs bs) i (with-class 0 d) ≡ with-class (getD cs i 0) (getD bs i d)
 unfolding classed
 classed-getD [] [] i d h = refl
 classed-getD [] (b ∷ bs) i d h = absurd (omega arith)
@@ -29,7 +31,9 @@ classed-getD (c ∷ cs) [] i d h = absurd (omega arith)
 classed-getD (c ∷ cs) (b ∷ bs) zero d h = refl
 classed-getD (c ∷ cs) (b ∷ bs) (suc i) d h = classed-getD cs bs i d (omega arith)
 
-pub classed-set : (cs : List ℕ) (bs : List Bucket) (i c : ℕ) (b : Bucket) → length cs ≡ length bs → classed (set cs i c) (set bs i b) ≡ set (classed cs bs) i (with-class c b)
+pub classed-set :
+    (cs : List ℕ) (bs : List Bucket) (i c : ℕ) (b : Bucket) → length cs ≡ length bs →
+    classed (set cs i c) (set bs i b) ≡ set (classed cs bs) i (with-class c b)
 unfolding classed
 classed-set [] [] i c b h = refl
 classed-set [] (y ∷ bs) i c b h = absurd (omega arith)
@@ -48,7 +52,8 @@ buckets-are (suc n) (c ∷ cs) (b ∷ bs) h = ap (λ (l : List Bucket). b ∷ l)
 -- a removal's step in both arrays
 pub removed-both :
     (n i : ℕ) (cs : List ℕ) (bs : List Bucket) (d : Bucket) → i + 1 < n → n ≤ length bs → length cs ≡ length bs →
-    take (i + 1) (classed (set cs i (getD cs (i + 1) 0)) (set bs i (getD bs (i + 1) d))) ++ rest n (i + 1 + 1) (classed (set cs i (getD cs (i + 1) 0)) (set bs i (getD bs (i + 1) d)))
+    take (i + 1) (classed (set cs i (getD cs (i + 1) 0)) (set bs i (getD bs (i + 1) d))) ++ rest n (i + 1 + 1)
+    (classed (set cs i (getD cs (i + 1) 0)) (set bs i (getD bs (i + 1) d)))
     ≡ take i (classed cs bs) ++ rest n (i + 1) (classed cs bs)
 removed-both n i cs bs d h k e =
     let w : n ≤ length (classed cs bs) = omega (arith, classed-length cs bs e) in

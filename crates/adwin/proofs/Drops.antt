@@ -22,7 +22,9 @@ use Rattle.adwin.proofs.Gap.{Closing, closing-ends, counting, with-row}
 use Rattle.adwin.specs.Inside.{oldestDropped, withHeld, withoutOldest}
 
 -- ---- the oldest bucket, in the arrays and in the list
-pub oldest-is : (n : ℕ) (cs : List ℕ) (bs : List Bucket) (d : Bucket) (s : Sums) → 0 < n → 0 < length bs → length cs ≡ length bs → sumsWithout s (getD bs 0 d) ≡ withoutOldest s (take n (classed cs bs))
+pub oldest-is :
+    (n : ℕ) (cs : List ℕ) (bs : List Bucket) (d : Bucket) (s : Sums) → 0 < n → 0 < length bs → length cs ≡ length bs →
+    sumsWithout s (getD bs 0 d) ≡ withoutOldest s (take n (classed cs bs))
 unfolding classed
 oldest-is zero cs bs d s h k e = absurd (omega arith)
 oldest-is (suc n) cs [] d s h k e = absurd (omega arith)
@@ -47,12 +49,14 @@ lessened w gone v = record {
 -- the gap at the oldest place has closed in s
 pub dropped-is :
     (a : Adwin) (d : Bucket) (v : Float) (m : ℕ) (s : Adwin) (q : ℕ) → length (a .buckets) ≡ places → length (a .classes) ≡ places → 0 < a .count →
-    v ≡ varianceWithout (a .width) (a .total) (a .variance) (getD (a .buckets) 0 d) → Closing a 0 m s q → m ≤ q → lessened (view (counting s m)) (getD (a .buckets) 0 d) v ≡ oldestDropped (view a)
+    v ≡ varianceWithout (a .width) (a .total) (a .variance) (getD (a .buckets) 0 d) → Closing a 0 m s q → m ≤ q → lessened (view (counting s m))
+    (getD (a .buckets) 0 d) v ≡ oldestDropped (view a)
 dropped-is a d v m s q b k h e c l =
     let gone = getD (a .buckets) 0 d in
     let w = withHeld (view a) (drop 1 (heldOf a)) in
     ap (λ (x : Window). lessened x gone v)
-    (with-row a (counting s m) (drop 1 (heldOf a)) (record { buckets = c .alike .buckets; classes = c .alike .classes; figures = c .alike .figures }) (closing-ends a 0 m s q c l ∙ without-first (heldOf a)))
+    (with-row a (counting s m) (drop 1 (heldOf a)) (record { buckets = c .alike .buckets; classes = c .alike .classes; figures = c .alike .figures })
+    (closing-ends a 0 m s q c l ∙ without-first (heldOf a)))
     ∙ ap (lessened w gone) e
     ∙ ap (λ (x : Sums). record { delta = a .delta; held = drop 1 (heldOf a); sums = x; sinceCheck = a .«since_check»; taken = a .taken })
     (oldest-is (a .count) (a .classes) (a .buckets) d (sumsOf a) h (omega arith) (k ∙ sym b))
@@ -93,12 +97,14 @@ module _ (d : Float) (s : Sums) (k t : ℕ) where
   rung-at : (l : List Classed) → mustDropIn (win l) ≡ true → true ≡ shrunk (win l) .alarm
   unfolding shrunk
   rung-at [] h = absurd (true≢false (sym h ∙ none-drop d s))
-  rung-at (b ∷ l) h = ap (λ (u : Bool). outcome (win (b ∷ l)) (cond u (alsoDropped b (searchOf d (sumsWithout s (b .bucket)) l)) (allKept s (b ∷ l))) .alarm) (sym h)
+  rung-at (b ∷ l) h =
+      ap (λ (u : Bool). outcome (win (b ∷ l)) (cond u (alsoDropped b (searchOf d (sumsWithout s (b .bucket)) l)) (allKept s (b ∷ l))) .alarm) (sym h)
 
   goes-on-at : (l : List Classed) → mustDropIn (win l) ≡ true → shrunk (oldestDropped (win l)) .window ≡ shrunk (win l) .window
   unfolding shrunk
   goes-on-at [] h = absurd (true≢false (sym h ∙ none-drop d s))
-  goes-on-at (b ∷ l) h = ap (λ (u : Bool). outcome (win (b ∷ l)) (cond u (alsoDropped b (searchOf d (sumsWithout s (b .bucket)) l)) (allKept s (b ∷ l))) .window) (sym h)
+  goes-on-at (b ∷ l) h =
+      ap (λ (u : Bool). outcome (win (b ∷ l)) (cond u (alsoDropped b (searchOf d (sumsWithout s (b .bucket)) l)) (allKept s (b ∷ l))) .window) (sym h)
 
 -- a search that drops nothing, and one that drops
 unrung : (w : Window) → mustDropIn w ≡ false → quiet w ≡ shrunk w
@@ -132,7 +138,8 @@ or-false true = refl
 or-false false = refl
 
 pub search-goes-on :
-    (u : Window) (s : Adwin) (answer : Verdict) (r : Adwin) → Searching u s answer → mustDropIn (view s) ≡ true → r .count + 1 ≡ s .count → view r ≡ oldestDropped (view s) → Searching u r Alarm
+    (u : Window) (s : Adwin) (answer : Verdict) (r : Adwin) → Searching u s answer → mustDropIn (view s) ≡ true → r .count + 1 ≡ s .count → view r
+    ≡ oldestDropped (view s) → Searching u r Alarm
 unfolding shrunk
 search-goes-on u s answer r c h n e =
     let z : numberOf answer ≡ 0 = ap (λ (o : Outcome). o .refusal) (c .left) in

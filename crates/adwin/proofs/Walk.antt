@@ -13,7 +13,8 @@ use Rattle.adwin.specs.View.{heldOf, view}
 use Rattle.adwin.specs.Inside.{withHeld}
 use Rattle.lists.specs.Retain.{without}
 use Rattle.adwin.proofs.Classes.{classed-length}
-use Rattle.adwin.proofs.Carries.{nothing, settled, settled-first, settled-other, settled-next, settled-pair, pairMerged, class-at, merged-both, pushed-is}
+use Rattle.adwin.proofs.Carries.{nothing, settled, settled-first, settled-other, settled-next, settled-pair, pairMerged, class-at, merged-both}
+use Rattle.adwin.proofs.Carries.{pushed-is}
 use Rattle.adwin.proofs.Gap.{Alike, Closing, closing-ends, counting, rowOf, with-row}
 
 -- The window a has its newest bucket at n. In s the walk has reached i, with k newer buckets in its class.
@@ -62,7 +63,8 @@ module _ (a : Adwin) (n : ℕ) (s : Adwin) (i k : ℕ) (w : Carrying a n s i k) 
     -- .. and where the next older one is of another class
     pub walk-stops : (getD (s .classes) j 0 ≡ getD (s .classes) i 0 → ⊥) → Carrying a n s 0 k
     walk-stops d =
-        let f : getD (heldOf s) j nothing .class ≡ getD (heldOf s) i nothing .class → ⊥ = λ u. d (sym (held-class j (omega arith)) ∙ u ∙ held-class i (omega arith)) in
+        let f : getD (heldOf s) j nothing .class ≡ getD (heldOf s) i nothing .class → ⊥ =
+        λ u. d (sym (held-class j (omega arith)) ∙ u ∙ held-class i (omega arith)) in
         record {
           within = omega (arith, w .within);
           room = w .room;
@@ -88,13 +90,15 @@ module _ (a : Adwin) (n : ℕ) (s : Adwin) (i k : ℕ) (w : Carrying a n s i k) 
       -- over the cap: the two at j and j + 1 become one of the next class, and the gap has closed in t
       pub walk-merges :
           cap < k + 2 → (b : Bucket) (c : ℕ) → b ≡ mergedOf (getD (s .buckets) j (nothing .bucket)) (getD (s .buckets) i (nothing .bucket)) →
-          c ≡ nextClass (getD (s .classes) i 0) → (m : ℕ) (t : Adwin) (q : ℕ) → Closing (storedAt s j c b (s .count)) i m t q → m ≤ q → Carrying a n (counting t m) j 0
+          c ≡ nextClass (getD (s .classes) i 0) → (m : ℕ) (t : Adwin) (q : ℕ) → Closing (storedAt s j c b (s .count)) i m t q → m ≤ q → Carrying a n
+          (counting t m) j 0
       walk-merges h b c p r m t q g l =
           let y : m + 1 ≡ s .count = g .last in
           let x : take m (rowOf t) ≡ pairMerged j (heldOf s) =
           closing-ends (storedAt s j c b (s .count)) i m t q g l
           ∙ ap (λ (z : ℕ). without z (heldOf (storedAt s j c b (s .count)))) e
-          ∙ merged-both (s .count) j (s .classes) (s .buckets) reach equal c b (omega (arith, w .within)) (r ∙ ap (λ (z : ℕ). nextClass (getD (s .classes) z 0)) e)
+          ∙ merged-both (s .count) j (s .classes) (s .buckets) reach equal c b (omega (arith, w .within))
+          (r ∙ ap (λ (z : ℕ). nextClass (getD (s .classes) z 0)) e)
           (p ∙ ap (λ (z : ℕ). mergedOf (getD (s .buckets) j (nothing .bucket)) (getD (s .buckets) z (nothing .bucket))) e) in
           record {
             within = omega (arith, w .within);
@@ -105,7 +109,9 @@ module _ (a : Adwin) (n : ℕ) (s : Adwin) (i k : ℕ) (w : Carrying a n s i k) 
           }
 
 -- the walk begins at the new bucket
-pub walk-starts : (a : Adwin) → length (a .buckets) ≡ places → length (a .classes) ≡ places → (n : ℕ) → n + 1 ≡ a .count → a .count ≤ places → Carrying a n a n 0
+pub walk-starts :
+    (a : Adwin) → length (a .buckets) ≡ places → length (a .classes) ≡ places → (n : ℕ) → n + 1 ≡ a .count → a .count ≤ places →
+    Carrying a n a n 0
 walk-starts a b c n e r = record { within = omega arith; room = r; few = omega arith; alike = record { buckets = b; classes = c; figures = refl }; left = refl }
 
 pub walk-ends :
@@ -113,4 +119,5 @@ pub walk-ends :
     Carrying (storedAt a (a .count) 0 new (a .count + 1)) (a .count) s i k → i ≡ 0 → view s ≡ withHeld (view a) (pushOf (heldOf a) new)
 walk-ends a new s i k b c h w e =
     with-row a s (pushOf (heldOf a) new) (record { buckets = w .alike .buckets; classes = w .alike .classes; figures = w .alike .figures })
-    (sym (at-oldest (storedAt a (a .count) 0 new (a .count + 1)) (a .count) s i k w e) ∙ w .left ∙ pushed-is (a .count) 0 (a .classes) (a .buckets) (omega arith) (c ∙ sym b) new (omega arith))
+    (sym (at-oldest (storedAt a (a .count) 0 new (a .count + 1)) (a .count) s i k w e) ∙ w .left
+    ∙ pushed-is (a .count) 0 (a .classes) (a .buckets) (omega arith) (c ∙ sym b) new (omega arith))

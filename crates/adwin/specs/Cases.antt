@@ -29,25 +29,34 @@ module _ (w : Window) (x : Float) where
     where
       go :
           (f : Bool) → isFinite x ≡ f → (r : Bool) → hasRoom w ≡ r → (t : Bool) → due w ≡ t →
-          P (cond f (cond r (cond t (shrunk (grown w x)) (quiet (grown w x))) (full w)) (quiet w)) (cond (f && (r && t)) (searchOf (w .delta) (grown w x .sums) (grown w x .held) .dropped) [])
+          P (cond f (cond r (cond t (shrunk (grown w x)) (quiet (grown w x))) (full w)) (quiet w))
+          (cond (f && (r && t)) (searchOf (w .delta) (grown w x .sums) (grown w x .held) .dropped) [])
       go false e r h t i = a e
       go true e false h t i = b e h
       go true e true h false i = c e h i
       go true e true h true i = d e h i
 
   pub not-finite : isFinite x ≡ false → quiet w ≡ updateOf w x
-  not-finite p = update-cases (λ (o : Outcome) (l : List Classed). quiet w ≡ o) (λ e. refl) (λ e h. absurd (true≢false (sym e ∙ p))) (λ e h i. absurd (true≢false (sym e ∙ p))) (λ e h i. absurd (true≢false (sym e ∙ p)))
+  not-finite p =
+      update-cases (λ (o : Outcome) (l : List Classed). quiet w ≡ o) (λ e. refl) (λ e h. absurd (true≢false (sym e ∙ p)))
+      (λ e h i. absurd (true≢false (sym e ∙ p))) (λ e h i. absurd (true≢false (sym e ∙ p)))
 
   module _ (p : isFinite x ≡ true) where
     pub no-room : hasRoom w ≡ false → full w ≡ updateOf w x
-    no-room q = update-cases (λ (o : Outcome) (l : List Classed). full w ≡ o) (λ e. absurd (true≢false (sym p ∙ e))) (λ e h. refl) (λ e h i. absurd (true≢false (sym h ∙ q))) (λ e h i. absurd (true≢false (sym h ∙ q)))
+    no-room q =
+        update-cases (λ (o : Outcome) (l : List Classed). full w ≡ o) (λ e. absurd (true≢false (sym p ∙ e))) (λ e h. refl)
+        (λ e h i. absurd (true≢false (sym h ∙ q))) (λ e h i. absurd (true≢false (sym h ∙ q)))
 
     module _ (q : hasRoom w ≡ true) where
       pub not-due : due w ≡ false → quiet (grown w x) ≡ updateOf w x
-      not-due r = update-cases (λ (o : Outcome) (l : List Classed). quiet (grown w x) ≡ o) (λ e. absurd (true≢false (sym p ∙ e))) (λ e h. absurd (true≢false (sym q ∙ h))) (λ e h i. refl) (λ e h i. absurd (true≢false (sym i ∙ r)))
+      not-due r =
+          update-cases (λ (o : Outcome) (l : List Classed). quiet (grown w x) ≡ o) (λ e. absurd (true≢false (sym p ∙ e)))
+          (λ e h. absurd (true≢false (sym q ∙ h))) (λ e h i. refl) (λ e h i. absurd (true≢false (sym i ∙ r)))
 
       pub is-due : due w ≡ true → shrunk (grown w x) ≡ updateOf w x
-      is-due r = update-cases (λ (o : Outcome) (l : List Classed). shrunk (grown w x) ≡ o) (λ e. absurd (true≢false (sym p ∙ e))) (λ e h. absurd (true≢false (sym q ∙ h))) (λ e h i. absurd (true≢false (sym r ∙ i))) (λ e h i. refl)
+      is-due r =
+          update-cases (λ (o : Outcome) (l : List Classed). shrunk (grown w x) ≡ o) (λ e. absurd (true≢false (sym p ∙ e)))
+          (λ e h. absurd (true≢false (sym q ∙ h))) (λ e h i. absurd (true≢false (sym r ∙ i))) (λ e h i. refl)
 
 pub room-taken : (w : Window) → hasRoom w ≡ true → w .taken < limit
 room-taken w h = go (ltb (w .taken) limit) refl h
@@ -64,7 +73,8 @@ pub record Takes (w : Window) (o : Outcome) : Type 0 where
 pub update-takes : (w : Window) (x : Float) → w .taken ≤ limit → Takes w (updateOf w x)
 unfolding grown shrunk
 update-takes w x h =
-    update-cases w x (λ (o : Outcome) (l : List Classed). Takes w o) (λ e. record { more = omega arith; within = h }) (λ e r. record { more = omega arith; within = h })
+    update-cases w x (λ (o : Outcome) (l : List Classed). Takes w o) (λ e. record { more = omega arith; within = h })
+    (λ e r. record { more = omega arith; within = h })
     (λ e r i. record { more = omega arith; within = omega (arith, room-taken w r) })
     (λ e r i. record { more = omega (arith, one-at-most (shrunk (grown w x) .alarm)); within = omega (arith, room-taken w r) })
   where

@@ -43,7 +43,8 @@ varianceWithout width total variance gone =
     cond (lt nought rest) (larger (variance ⊖ (gone .variance ⊕ gone .size ⊗ rest ⊘ (gone .size ⊕ rest) ⊗ gap ⊗ gap)) nought) nought
 
 abbrev pub sumsWithout : Sums → Bucket → Sums
-sumsWithout s gone = record { width = s .width ⊖ gone .size; total = s .total ⊖ gone .total; variance = varianceWithout (s .width) (s .total) (s .variance) gone }
+sumsWithout s gone =
+    record { width = s .width ⊖ gone .size; total = s .total ⊖ gone .total; variance = varianceWithout (s .width) (s .total) (s .variance) gone }
 
 -- what a cut search drops, what it keeps, and the sums of what it keeps
 pub record Searched : Type 0 where

@@ -45,7 +45,13 @@ holds-fewest {c} {k} [] h none = omega (arith, at (cap * c + k + 0) (cap * c + k
 holds-fewest {c} {k} (b ∷ l) h (same e g s) =
     let i : fewest (cap * c + suc k + length l) ≤ fewest (cap * c + suc k) + valuesIn l = holds-fewest l (omega arith) s in
     let u : 2 ^ b .class ≡ 2 ^ c = ap (λ (j : ℕ). 2 ^ j) e in
-    omega (arith, in-class c k g, at (cap * c + suc k) (cap * c + k + 1) (omega arith), at (cap * c + suc k + length l) (cap * c + k + suc (length l)) (omega arith))
+    omega (
+      arith,
+      in-class c k g,
+      at (cap * c + suc k) (cap * c + k + 1) (omega arith),
+      at (cap * c + suc k + length l)
+          (cap * c + k + suc (length l)) (omega arith),
+    )
 holds-fewest {c} {k} (b ∷ l) h (next g s) =
     let d = b .class in
     let i : fewest (cap * d + 1 + length l) ≤ fewest (cap * d + 1) + valuesIn l = holds-fewest l (omega arith) s in

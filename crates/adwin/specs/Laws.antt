@@ -74,7 +74,8 @@ room w h k = rw (lt-ltb (w .taken) limit h, lt-ltb (length (w .held)) places k)
 pub not-refused : (w : Window) (x : Float) → w .taken < limit → length (w .held) < places → updateOf w x .refusal ≡ 0
 unfolding shrunk
 not-refused w x h k =
-    update-cases w x (λ (o : Outcome) (l : List Classed). o .refusal ≡ 0) (λ e. refl) (λ e r. absurd (true≢false (sym (room w h k) ∙ r))) (λ e r i. refl) (λ e r i. refl)
+    update-cases w x (λ (o : Outcome) (l : List Classed). o .refusal ≡ 0) (λ e. refl) (λ e r. absurd (true≢false (sym (room w h k) ∙ r)))
+    (λ e r i. refl) (λ e r i. refl)
 
 ran : (delta : Float) (xs : List Float) → Run (newOf delta) xs (runOf (newOf delta) xs)
 ran delta xs = run (newOf delta) xs (sound-new delta)

@@ -21,7 +21,8 @@ use Rattle.adwin.specs.Stacked.{Stacked, none, same, next, values-revers
 
 -- ---- classes and sizes, from the values that there are
 pub class-low : (c : ℕ) → 2 ^ c ≤ limit → c ≤ 15
-class-low c h = by-cases (decLe c 15) (λ e. e) (λ e. absurd (let g : 16 ≤ c = omega arith in let p : 2 ^ 16 ≤ 2 ^ c = pow-le-pow-right (omega arith) g in omega arith))
+class-low c h =
+    by-cases (decLe c 15) (λ e. e) (λ e. absurd (let g : 16 ≤ c = omega arith in let p : 2 ^ 16 ≤ 2 ^ c = pow-le-pow-right (omega arith) g in omega arith))
 
 doubled : (c : ℕ) → 2 ^ (c + 1) ≡ 2 ^ c + 2 ^ c
 doubled c = ap (λ (n : ℕ). 2 ^ n) (add-one c) ∙ pow-suc 2 c ∙ omega arith
@@ -49,10 +50,12 @@ pub record Carried (k : ℕ) (y : Classed) (older r : List Classed) : Type 0 whe
   pub sized : Sized r
   pub values : valuesIn r ≡ 2 ^ y .class + valuesIn older
 
-module _ (k : ℕ) (y x : Classed) (l : List Classed) (h : k < cap) (e : y .bucket .size ≡ whole (2 ^ y .class)) (z : Sized (x ∷ l)) (m : 2 ^ y .class + valuesIn (x ∷ l) ≤ limit) where
+module _ (k : ℕ) (y x : Classed) (l : List Classed) (h : k < cap) (e : y .bucket .size ≡ whole (2 ^ y .class)) (z : Sized (x ∷ l))
+    (m : 2 ^ y .class + valuesIn (x ∷ l) ≤ limit) where
   pair-carried :
       x .class ≡ y .class → Stacked (y .class) (suc k) l → cap < k + 2 →
-      (Stacked (pairOf x y .class) 0 l → pairOf x y .bucket .size ≡ whole (2 ^ pairOf x y .class) → 2 ^ pairOf x y .class + valuesIn l ≤ limit → Carried 0 (pairOf x y) l (carry 0 (pairOf x y) l)) →
+      (Stacked (pairOf x y .class) 0 l → pairOf x y .bucket .size
+      ≡ whole (2 ^ pairOf x y .class) → 2 ^ pairOf x y .class + valuesIn l ≤ limit → Carried 0 (pairOf x y) l (carry 0 (pairOf x y) l)) →
       Carried k y (x ∷ l) (carry 0 (pairOf x y) l)
   pair-carried f t g ih =
       let c = y .class in
@@ -74,11 +77,17 @@ module _ (k : ℕ) (y x : Classed) (l : List Classed) (h : k < cap) (e : y .buck
   next-carried f t g ih =
       let r = ih (omega arith) (subst (λ (i : ℕ). Stacked i (k + 1) l) (sym f) (subst (λ (i : ℕ). Stacked (y .class) i l) (sym (add-one k)) t)) (omega arith) in
       let o = carry (k + 1) x l in
-      record { stacked = same refl h (subst (λ (i : ℕ). Stacked i (suc k) o) f (subst (λ (i : ℕ). Stacked (x .class) i o) (add-one k) (r .stacked))); sized = (e, r .sized); values = ap (λ (i : ℕ). 2 ^ y .class + i) (r .values) }
+      record {
+        stacked = same refl h (subst (λ (i : ℕ). Stacked i (suc k) o) f
+            (subst (λ (i : ℕ). Stacked (x .class) i o) (add-one k) (r .stacked)));
+        sized = (e, r .sized);
+        values = ap (λ (i : ℕ). 2 ^ y .class + i) (r .values);
+      }
 
   step :
       (a : Bool) → eqb (x .class) (y .class) ≡ a → (b : Bool) → ltb cap (k + 2) ≡ b → Stacked (y .class) k (x ∷ l) →
-      (Stacked (pairOf x y .class) 0 l → pairOf x y .bucket .size ≡ whole (2 ^ pairOf x y .class) → 2 ^ pairOf x y .class + valuesIn l ≤ limit → Carried 0 (pairOf x y) l (carry 0 (pairOf x y) l)) →
+      (Stacked (pairOf x y .class) 0 l → pairOf x y .bucket .size
+      ≡ whole (2 ^ pairOf x y .class) → 2 ^ pairOf x y .class + valuesIn l ≤ limit → Carried 0 (pairOf x y) l (carry 0 (pairOf x y) l)) →
       (k + 1 < cap → Stacked (x .class) (k + 1) l → 2 ^ x .class + valuesIn l ≤ limit → Carried (k + 1) x l (carry (k + 1) x l)) →
       Carried k y (x ∷ l) (cond a (cond b (carry 0 (pairOf x y) l) (y ∷ carry (k + 1) x l)) (y ∷ x ∷ l))
   step false p b q (same f g t) ip iq = absurd (eqb-false (x .class) (y .class) p f)
@@ -112,5 +121,6 @@ pushed held x s z m =
     record {
       stacked = rw reverse-reverse (r .stacked);
       sized = sized-reverse (carry 0 y (reverse held)) (r .sized);
-      values = values-reverse (carry 0 y (reverse held)) ∙ (let u : valuesIn (carry 0 y (reverse held)) ≡ 1 + valuesIn (reverse held) = r .values in omega arith);
+      values = values-reverse (carry 0 y (reverse held))
+          ∙ (let u : valuesIn (carry 0 y (reverse held)) ≡ 1 + valuesIn (reverse held) = r .values in omega arith);
     }

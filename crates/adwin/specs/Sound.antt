@@ -95,7 +95,9 @@ module _ (w : Window) (x : Float) (s : Sound w) where
       let g = sound-grown w x s (room-taken w h) in
       record { sound = g .0; taken = rw e (omega (arith, room-taken w h)); sized = tt; values = omega (arith, g .1); rings = refl }
 
-  searched : isFinite x ≡ true → hasRoom w ≡ true → due w ≡ true → Step w x (shrunk (grown w x)) (searchOf (w .delta) (grown w x .sums) (grown w x .held) .dropped)
+  searched :
+      isFinite x ≡ true → hasRoom w ≡ true → due w ≡ true →
+      Step w x (shrunk (grown w x)) (searchOf (w .delta) (grown w x .sums) (grown w x .held) .dropped)
   unfolding grown shrunk
   searched e h i =
       let u = grown w x in
@@ -105,7 +107,8 @@ module _ (w : Window) (x : Float) (s : Sound w) where
       let v : valuesIn (u .held) ≡ valuesIn (r .dropped) + valuesIn (r .kept) = ap valuesIn (c .parts) ∙ values-append (r .dropped) (r .kept) in
       record {
         sound = record {
-          stacked = stacked-front (reverse (r .kept)) (reverse (r .dropped)) (subst (λ (l : List Classed). Stacked 0 0 l) (ap reverse (c .parts) ∙ reverse-append (r .dropped) (r .kept)) (g .0 .stacked));
+          stacked = stacked-front (reverse (r .kept)) (reverse (r .dropped))
+              (subst (λ (l : List Classed). Stacked 0 0 l) (ap reverse (c .parts) ∙ reverse-append (r .dropped) (r .kept)) (g .0 .stacked));
           sized = sized-back (r .dropped) (r .kept) (subst Sized (c .parts) (g .0 .sized));
           width = c .width;
           fits = omega (arith, g .0 .fits);
@@ -135,7 +138,8 @@ run w (x ∷ xs) s =
     let u = updateOf w x .window in
     let a : Step w x (updateOf w x) (droppedBy w x) = step w x s in
     let b : Run u xs (runOf u xs) = run u xs (a .sound) in
-    let c : valuesIn (droppedBy w x ++ droppedIn u xs) ≡ valuesIn (droppedBy w x) + valuesIn (droppedIn u xs) = values-append (droppedBy w x) (droppedIn u xs) in
+    let c : valuesIn (droppedBy w x ++ droppedIn u xs) ≡ valuesIn (droppedBy w x) + valuesIn (droppedIn u xs) =
+    values-append (droppedBy w x) (droppedIn u xs) in
     record {
       sound = b .sound;
       taken = omega (arith, a .taken, b .taken);

@@ -53,7 +53,8 @@ count-append c (b ∷ l) m = let e : countOf c (l ++ m) ≡ countOf c l + countO
 
 count-reverse : (c : ℕ) (l : List Classed) → countOf c (reverse l) ≡ countOf c l
 count-reverse c [] = refl
-count-reverse c (b ∷ l) = ap (countOf c) (reverse-cons b l) ∙ count-append c (reverse l) (b ∷ []) ∙ (let e : countOf c (reverse l) ≡ countOf c l = count-reverse c l in omega arith)
+count-reverse c (b ∷ l) =
+    ap (countOf c) (reverse-cons b l) ∙ count-append c (reverse l) (b ∷ []) ∙ (let e : countOf c (reverse l) ≡ countOf c l = count-reverse c l in omega arith)
 
 below-append : (c : ℕ) (l m : List Classed) → Below c l → Below c m → Below c (l ++ m)
 below-append c [] m p q = q
@@ -67,7 +68,8 @@ below-reverse c (b ∷ l) p = rw reverse-cons (below-append c (reverse l) (b ∷
 none-below : {c k : ℕ} (e : ℕ) (l : List Classed) → Stacked c k l → e < c → countOf e l ≡ 0
 none-below e [] none h = refl
 none-below e (b ∷ l) (same q g s) h = let i : countOf e l ≡ 0 = none-below e l s h in rw (ne-eqb (b .class) e (λ u. absurd (omega arith))) (omega arith)
-none-below e (b ∷ l) (next g s) h = let i : countOf e l ≡ 0 = none-below e l s (omega arith) in rw (ne-eqb (b .class) e (λ u. absurd (omega arith))) (omega arith)
+none-below e (b ∷ l) (next g s) h =
+    let i : countOf e l ≡ 0 = none-below e l s (omega arith) in rw (ne-eqb (b .class) e (λ u. absurd (omega arith))) (omega arith)
 
 here : {c k : ℕ} (l : List Classed) → Stacked c k l → k ≤ cap → countOf c l + k ≤ cap
 here [] none h = omega arith
@@ -79,11 +81,13 @@ anywhere e [] none h = omega arith
 anywhere {c} {k} e (b ∷ l) (same q g s) h =
     let i : countOf e l ≤ cap = anywhere e l s (omega arith) in
     let o : countOf c (b ∷ l) + k ≤ cap = here (b ∷ l) (same q g s) h in
-    by-cases (ℕ-discrete (b .class) e) (λ u. let v : c ≡ e = omega arith in subst (λ (j : ℕ). countOf j (b ∷ l) ≤ cap) v (omega arith)) (λ u. rw (ne-eqb (b .class) e u) (omega arith))
+    by-cases (ℕ-discrete (b .class) e) (λ u. let v : c ≡ e = omega arith in subst (λ (j : ℕ). countOf j (b ∷ l) ≤ cap) v (omega arith))
+    (λ u. rw (ne-eqb (b .class) e u) (omega arith))
 anywhere {c} {k} e (b ∷ l) (next g s) h =
     let i : countOf e l ≤ cap = anywhere e l s (omega arith) in
     let o : countOf (b .class) l + 1 ≤ cap = here l s (omega arith) in
-    by-cases (ℕ-discrete (b .class) e) (λ u. rw (eq-eqb (b .class) e u) (let v : countOf e l + 1 ≤ cap = subst (λ (j : ℕ). countOf j l + 1 ≤ cap) u o in omega arith)) (λ u. rw (ne-eqb (b .class) e u) (omega arith))
+    by-cases (ℕ-discrete (b .class) e) (λ u. rw (eq-eqb (b .class) e u)
+    (let v : countOf e l + 1 ≤ cap = subst (λ (j : ℕ). countOf j l + 1 ≤ cap) u o in omega arith)) (λ u. rw (ne-eqb (b .class) e u) (omega arith))
 
 pub at-most-cap : (l : List Classed) → Stacked 0 0 (reverse l) → (c : ℕ) → countOf c l ≤ cap
 at-most-cap l s c = omega (arith, count-reverse c l, anywhere c (reverse l) s (omega arith))
@@ -98,5 +102,8 @@ last-highest (x ∷ l) b (next h s) = let r = last-highest l b s in (omega (arit
 pub never-rises : (l : List Classed) → Stacked 0 0 (reverse l) → NeverRising l
 never-rises [] s = tt
 never-rises (b ∷ l) s =
-    let t : Stacked 0 0 (reverse l ++ b ∷ []) = subst (λ (m : List Classed). Stacked 0 0 m) (reverse-cons b l) s in
-    (subst (Below (b .class)) (reverse-reverse l) (below-reverse (b .class) (reverse l) (last-highest (reverse l) b t .1)), never-rises l (stacked-front (reverse l) (b ∷ []) t))
+    let t : Stacked 0 0 (reverse l ++ b ∷ []) = subst (λ (m : List Classed). Stacked 0 0 m) (reverse-cons b l) s in (
+      subst (Below (b .class)) (reverse-reverse l) (below-reverse (b .class) (reverse l) (last-highest (reverse l) b t .1)),
+      never-rises l
+          (stacked-front (reverse l) (b ∷ []) t),
+    )

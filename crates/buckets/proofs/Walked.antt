@@ -55,7 +55,9 @@ module _ (s : Search) where
 
   pub end-finds : (l : List Bucket) → s .left ≤ 0 → foundIn s l ≡ s .fails
   unfolding someFails
-  end-finds l h = ap (λ (r : List Bucket). cond (s .fails) true (someFails (s .test) (s .n0) (s .t0) r)) (rest-end (s .at + s .left) (s .at) l (omega arith)) ∙ either (s .fails)
+  end-finds l h =
+      ap (λ (r : List Bucket). cond (s .fails) true (someFails (s .test) (s .n0) (s .t0) r)) (rest-end (s .at + s .left) (s .at) l (omega arith))
+      ∙ either (s .fails)
 
   module _ (b : Bucket) (h : 0 < s .left) where
     pub past-fewer : pastBucket s b .left < s .left

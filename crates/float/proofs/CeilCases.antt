@@ -39,7 +39,8 @@ left-over a d w D e =
 
 whole-lt : (m : ℕ) (e : ℤ) → m * up e / down e ≤ 2 ^ 53 → lt (whole (m * up e / down e)) (fin false m e) ≡ not (eqb (m * up e % down e) 0)
 whole-lt m e h =
-    lt-values (whole (m * up e / down e)) (fin false m e) (m * up e / down e) 1 (m * up e) (down e) (omega arith) (down-pos e) (whole-is (m * up e / down e) h) (refl, refl)
+    lt-values (whole (m * up e / down e)) (fin false m e) (m * up e / down e) 1 (m * up e) (down e) (omega arith) (down-pos e)
+    (whole-is (m * up e / down e) h) (refl, refl)
     ∙ left-over (m * up e) (down e) (m * up e / down e) (down-pos e) refl
 
 not-not : (b c : Bool) → not b ≡ c → b ≡ not c
@@ -48,7 +49,9 @@ not-not true false e = refl
 not-not false true e = refl
 not-not false false e = absurd (true≢false e)
 
-ceil-fin : (s : Bool) (m : ℕ) (e : ℤ) (b : Bool) → eqb (m * up e % down e) 0 ≡ b → ceilOf (fin s m e) ≡ cond b (fin s m e) (cond s (neg (whole (m * up e / down e))) (whole (m * up e / down e + 1)))
+ceil-fin :
+    (s : Bool) (m : ℕ) (e : ℤ) (b : Bool) → eqb (m * up e % down e) 0 ≡ b →
+    ceilOf (fin s m e) ≡ cond b (fin s m e) (cond s (neg (whole (m * up e / down e))) (whole (m * up e / down e + 1)))
 unfolding ceilOf
 ceil-fin s m e b p = ap (λ (t : Bool). cond t (fin s m e) (cond s (neg (whole (m * up e / down e))) (whole (m * up e / down e + 1)))) p
 
@@ -164,5 +167,6 @@ pub far-down : (x : Float) → T (fits binary64 x) → lt (neg big) x ≡ false 
 unfolding lt ceilOf neg
 far-down nan f p = refl
 far-down (inf s) f p = refl
-far-down (fin false m e) f p = absurd (let h : 2 ^ 53 * down e + m * up e * 1 ≤ 0 = nltb→le 0 (2 ^ 53 * down e + m * up e * 1) (no p) in omega (arith, down-pos e))
+far-down (fin false m e) f p =
+    absurd (let h : 2 ^ 53 * down e + m * up e * 1 ≤ 0 = nltb→le 0 (2 ^ 53 * down e + m * up e * 1) (no p) in omega (arith, down-pos e))
 far-down (fin true m e) f p = stays-whole true m e (big-whole true m e f (nltb→le (m * up e * 1) (2 ^ 53 * down e) (no p)))

@@ -2,7 +2,8 @@
 use mathlib.Core.Path.{_≡_, refl, sym, ap, _∙_, subst}
 use mathlib.Core.Logic.{_⊎_, inl, inr}
 use Prim.Native.Nat.{ℕ, zero, suc, _+_, _-_, _*_, _/_, _%_, _^_, _≤_, _<_}
-use native.Mathlib.Nat.{le-trans, le-of-eq, lt-of-lt-of-le, not-le-of-lt, mul-one, one-mul, mul-comm, mul-assoc, mul-lt-mul-of-pos-right, le-div-iff-mul-le, div-lt-iff-lt-mul, div-div-eq-div-mul, mul-div-mul-right, div-le-self, div-one}
+use native.Mathlib.Nat.{le-trans, le-of-eq, lt-of-lt-of-le, not-le-of-lt, mul-one, one-mul, mul-comm, mul-assoc, mul-lt-mul-of-pos-right}
+use native.Mathlib.Nat.{le-div-iff-mul-le, div-lt-iff-lt-mul, div-div-eq-div-mul, mul-div-mul-right, div-le-self, div-one}
 use native.Mathlib.Omega.{arith}
 use mathlib.Core.Bool.{Bool, true, false, not}
 use lib.IntN.{ℤ, pos, negsuc}
@@ -57,11 +58,14 @@ module _ (m : ℕ) (e : ℤ) where
   digits : down e ≤ m * up e → B % 0x10_0000_0000_0000 + 0x10_0000_0000_0000 ≡ units / 2 ^ k
   digits h =
       let s = many h in
-      let lo : 2 ^ 52 ≤ units / 2 ^ k = le-div-iff-mul-le (pow-pos k) .1 (le-trans (le-of-eq (sym (pow-add 2 52 k))) (size-reaches units (52 + k) (omega arith))) in
+      let lo : 2 ^ 52 ≤ units / 2 ^ k =
+      le-div-iff-mul-le (pow-pos k) .1 (le-trans (le-of-eq (sym (pow-add 2 52 k))) (size-reaches units (52 + k) (omega arith))) in
       let b = bits-opened m e in
       omega (arith, b, high, lo)
 
-  shifted : down e ≤ m * up e → B / 0x10_0000_0000_0000 < 1075 → (B % 0x10_0000_0000_0000 + 0x10_0000_0000_0000) / 2 ^ (1075 - B / 0x10_0000_0000_0000) ≡ m * up e / down e
+  shifted :
+      down e ≤ m * up e → B / 0x10_0000_0000_0000 < 1075 →
+      (B % 0x10_0000_0000_0000 + 0x10_0000_0000_0000) / 2 ^ (1075 - B / 0x10_0000_0000_0000) ≡ m * up e / down e
   shifted h l =
       let f = field h in
       let s = many h in
@@ -90,10 +94,12 @@ whole-far m (negsuc j) f h = absurd (
     let g : 2 ^ 1 ≤ 2 ^ suc j = pow-mono o in
     omega arith)
 whole-far m (pos j) f h =
-    let u : m * 2 ^ (1074 + j) ≡ m * 2 ^ j * 2 ^ 1074 = ap (λ (x : ℕ). m * x) (pow-add 2 1074 j ∙ mul-comm (2 ^ 1074) (2 ^ j)) ∙ sym (mul-assoc m (2 ^ j) (2 ^ 1074)) in
+    let u : m * 2 ^ (1074 + j) ≡ m * 2 ^ j * 2 ^ 1074 =
+    ap (λ (x : ℕ). m * x) (pow-add 2 1074 j ∙ mul-comm (2 ^ 1074) (2 ^ j)) ∙ sym (mul-assoc m (2 ^ j) (2 ^ 1074)) in
     ap (λ (c : ℕ). round binary64 false c 1) (div-one (m * 2 ^ j))
     ∙ whole-unique binary64 (round binary64 false (m * 2 ^ j) 1) (fin false m (pos j)) false (m * 2 ^ j) (round-fits binary64 false (m * 2 ^ j) 1) f
-    (round-exact binary64 false (m * 2 ^ j) 1 m (1074 + j) (lit< tt) (few false m (pos j) f) (subst (λ (x : ℕ). x < 2 ^ 2098) (sym u) (mul-lt-mul-of-pos-right (under m (pos j) f) (pow-pos 1074))) (sym u ∙ sym (mul-one (m * 2 ^ (1074 + j)))))
+    (round-exact binary64 false (m * 2 ^ j) 1 m (1074 + j) (lit< tt) (few false m (pos j) f)
+    (subst (λ (x : ℕ). x < 2 ^ 2098) (sym u) (mul-lt-mul-of-pos-right (under m (pos j) f) (pow-pos 1074))) (sym u ∙ sym (mul-one (m * 2 ^ (1074 + j)))))
     (refl, refl)
 
 -- ---- y below 0, by its field
@@ -137,7 +143,8 @@ module _ (m : ℕ) (e : ℤ) (f : T (fits binary64 (fin true m e))) where
   unfolding ofInt neg
   below-one h =
       elim (split (m * up e) (down e)) [
-        | inl l ↦ cut-minus m e ∙ ap (λ (x : ℕ). neg (ofInt binary64 (pos x))) (nothing (div-lt-iff-lt-mul {y = 1} (down-pos e) .1 (lt-of-lt-of-le l (le-of-eq (sym (one-mul (down e)))))))
+        | inl l ↦ cut-minus m e ∙ ap (λ (x : ℕ). neg (ofInt binary64 (pos x)))
+            (nothing (div-lt-iff-lt-mul {y = 1} (down-pos e) .1 (lt-of-lt-of-le l (le-of-eq (sym (one-mul (down e)))))))
         | inr g ↦ absurd (let a = field m e g in let b = many m e g in let c : B m e / 0x10_0000_0000_0000 < 1023 = h in omega arith)
       ]
     where
@@ -149,7 +156,8 @@ module _ (m : ℕ) (e : ℤ) (f : T (fits binary64 (fin true m e))) where
       × (cutOf (fin true m e) ≡ neg (ofInt binary64 (pos ((B m e % 0x10_0000_0000_0000 + 0x10_0000_0000_0000) / 2 ^ (1075 - B m e / 0x10_0000_0000_0000)))))
   in-reach h l =
       let g = one-at-least h in (
-        le-trans (div-le-self (B m e % 0x10_0000_0000_0000 + 0x10_0000_0000_0000) (2 ^ (1075 - B m e / 0x10_0000_0000_0000))) (omega (arith, digits m e g, high m e)),
+        le-trans (div-le-self (B m e % 0x10_0000_0000_0000 + 0x10_0000_0000_0000) (2 ^ (1075 - B m e / 0x10_0000_0000_0000)))
+            (omega (arith, digits m e g, high m e)),
         cut-minus m e ∙ ap (λ (x : ℕ). neg (ofInt binary64 (pos x))) (sym (shifted m e g l)),
       )
 

@@ -1,7 +1,8 @@
 -- The exponent's field of a double of 1 or more is 1022 and the binary digits of its whole part. Assumes nothing.
 use mathlib.Core.Path.{_≡_, refl, sym, ap, _∙_}
 use Prim.Native.Nat.{ℕ, zero, suc, _+_, _-_, _*_, _/_, _%_, _^_, _≤_, _<_}
-use native.Mathlib.Nat.{le-trans, le-of-eq, lt-of-lt-of-le, lt-of-le-of-lt, zero-mul, mul-pos, lt-of-not-le, not-le-of-lt, mul-right-comm, mul-le-mul-right, mul-lt-mul-of-pos-right, le-div-iff-mul-le, div-lt-iff-lt-mul}
+use native.Mathlib.Nat.{le-trans, le-of-eq, lt-of-lt-of-le, lt-of-le-of-lt, zero-mul, mul-pos, lt-of-not-le, not-le-of-lt, mul-right-comm}
+use native.Mathlib.Nat.{mul-le-mul-right, mul-lt-mul-of-pos-right, le-div-iff-mul-le, div-lt-iff-lt-mul}
 use native.Mathlib.Omega.{arith}
 use mathlib.Core.Bool.{true, false, not, _&&_}
 use lib.IntN.{ℤ}
@@ -31,9 +32,12 @@ size-scale n c t C Z =
     let z = size (n / c) in
     let lo : 2 ^ (z - 1) * c ≤ n = le-div-iff-mul-le C .0 (size-reaches (n / c) (z - 1) (pred-lt z Z)) in
     let hi : n < 2 ^ z * c = div-lt-iff-lt-mul C .0 (size-lt (n / c)) in
-    let lo' : 2 ^ (z - 1 + t) * c ≤ n * 2 ^ t = le-trans (le-of-eq (ap (λ (x : ℕ). x * c) (pow-add 2 (z - 1) t) ∙ mul-right-comm (2 ^ (z - 1)) (2 ^ t) c)) (mul-le-mul-right (2 ^ t) lo) in
-    let hi' : n * 2 ^ t < 2 ^ (z + t) * c = lt-of-lt-of-le (mul-lt-mul-of-pos-right hi (pow-pos t)) (le-of-eq (mul-right-comm (2 ^ z) c (2 ^ t) ∙ ap (λ (x : ℕ). x * c) (sym (pow-add 2 z t)))) in
-    join z t (size (n * 2 ^ t / c)) Z (size-le (n * 2 ^ t / c) (z + t) (div-lt-iff-lt-mul C .1 hi')) (size-gt (n * 2 ^ t / c) (z - 1 + t) (le-div-iff-mul-le C .1 lo'))
+    let lo' : 2 ^ (z - 1 + t) * c ≤ n * 2 ^ t =
+    le-trans (le-of-eq (ap (λ (x : ℕ). x * c) (pow-add 2 (z - 1) t) ∙ mul-right-comm (2 ^ (z - 1)) (2 ^ t) c)) (mul-le-mul-right (2 ^ t) lo) in
+    let hi' : n * 2 ^ t < 2 ^ (z + t) * c =
+    lt-of-lt-of-le (mul-lt-mul-of-pos-right hi (pow-pos t)) (le-of-eq (mul-right-comm (2 ^ z) c (2 ^ t) ∙ ap (λ (x : ℕ). x * c) (sym (pow-add 2 z t)))) in
+    join z t (size (n * 2 ^ t / c)) Z (size-le (n * 2 ^ t / c) (z + t) (div-lt-iff-lt-mul C .1 hi'))
+    (size-gt (n * 2 ^ t / c) (z - 1 + t) (le-div-iff-mul-le C .1 lo'))
 
 -- ---- the pattern of n units, n having 53 digits or more
 pub pattern : (n : ℕ) → 53 ≤ size n → (0 + (size n - 53) * 0x10_0000_0000_0000 + n / 2 ^ (size n - 53)) / 0x10_0000_0000_0000 ≡ size n - 52
@@ -43,7 +47,10 @@ pattern n h =
     let lo : 2 ^ 52 ≤ n / 2 ^ k = le-div-iff-mul-le (pow-pos k) .1 (le-trans (le-of-eq (sym (pow-add 2 52 k))) (size-reaches n (52 + k) (omega arith))) in
     omega arith
 
-pub bits-opened : (m : ℕ) (e : ℤ) → toBits binary64 (fin false m e) ≡ 0 + (size (m * up e * 2 ^ 1074 / down e) - 53) * 0x10_0000_0000_0000 + (m * up e * 2 ^ 1074 / down e) / 2 ^ (size (m * up e * 2 ^ 1074 / down e) - 53)
+pub bits-opened :
+    (m : ℕ) (e : ℤ) →
+    toBits binary64 (fin false m e) ≡ 0 + (size
+    (m * up e * 2 ^ 1074 / down e) - 53) * 0x10_0000_0000_0000 + (m * up e * 2 ^ 1074 / down e) / 2 ^ (size (m * up e * 2 ^ 1074 / down e) - 53)
 unfolding toBits
 bits-opened m e = refl
 
@@ -60,7 +67,9 @@ one-le m e t = let h : 1 * down e ≤ m * up e * 1 = le-or (1 * down e) (m * up 
 pub under : (m : ℕ) (e : ℤ) → T (fits binary64 (fin false m e)) → m * up e < 2 ^ 1024 * down e
 unfolding fits
 under zero e t = lt-of-le-of-lt (le-of-eq (zero-mul (up e))) (mul-pos (pow-pos 1024) (down-pos e))
-under (suc m) e t = ltb→lt (suc m * up e) (2 ^ 1024 * down e) (and-r (eqb (suc m % 2) 1 && ltb (suc m) (2 ^ 53) && leb (down e) (2 ^ 1074)) (ltb (suc m * up e) (2 ^ 1024 * down e)) t)
+under (suc m) e t =
+    ltb→lt (suc m * up e) (2 ^ 1024 * down e)
+    (and-r (eqb (suc m % 2) 1 && ltb (suc m) (2 ^ 53) && leb (down e) (2 ^ 1074)) (ltb (suc m * up e) (2 ^ 1024 * down e)) t)
 
 minus-below : (m : ℕ) (e : ℤ) → T (le one (fin true m e)) → ⊥
 unfolding le ofBits
@@ -79,4 +88,9 @@ scaled (fin false m e) f l i =
     let p : 0 < size w = size-gt w 0 a in
     let s : size (m * up e * 2 ^ 1074 / down e) ≡ size w + 1074 = size-scale (m * up e) (down e) 1074 d p in
     let u : size w ≤ 1024 = size-le w 1024 (div-lt-iff-lt-mul d .1 (under m e f)) in
-    record { no-nan = tt; field = ap (λ (b : ℕ). b / 0x10_0000_0000_0000) (bits-opened m e) ∙ pattern (m * up e * 2 ^ 1074 / down e) (omega arith) ∙ omega arith; small = omega arith }
+    record {
+      no-nan = tt;
+      field = ap (λ (b : ℕ). b / 0x10_0000_0000_0000) (bits-opened m e) ∙ pattern (m * up e * 2 ^ 1074 / down e) (omega arith)
+          ∙ omega arith;
+      small = omega arith;
+    }

@@ -11,7 +11,9 @@ use lib.Ieee.Bits.{is-true, is-false, nanBits-is}
 
 field : (x : ℕ) → x ≤ 2045 → ofFields binary64 false (suc x) 0 ≡ fin false 1 (minus (x + 52) 1074)
 unfolding ofFields
-field x h = ap (λ (b : Bool). cond b (inf false) (odd 53 false 0x10_0000_0000_0000 x 1074)) (is-false (eqb (suc x) 2047) (not-T (eqb (suc x) 2047) (λ t. let e : suc x ≡ 2047 = eqb→eq (suc x) 2047 t in omega arith)))
+field x h =
+    ap (λ (b : Bool). cond b (inf false) (odd 53 false 0x10_0000_0000_0000 x 1074))
+    (is-false (eqb (suc x) 2047) (not-T (eqb (suc x) 2047) (λ t. let e : suc x ≡ 2047 = eqb→eq (suc x) 2047 t in omega arith)))
 
 low-enough : (b : ℕ) → b < 0x8000_0000_0000_0000 → leb 0x8000_0000_0000_0000 b ≡ false
 low-enough b h = is-false (leb 0x8000_0000_0000_0000 b) (not-T (leb 0x8000_0000_0000_0000 b) (λ t. not-le-of-lt h (leb→le 0x8000_0000_0000_0000 b t)))
@@ -32,7 +34,8 @@ no-nan b e p = subst (λ (t : Bool). T (not t)) (sym (nanBits-is binary64 b ∙ 
 down-exponent : (x c : ℕ) → x + c ≡ 1022 → minus (x + 52) 1074 ≡ negℤ (pos c)
 down-exponent x zero e = let z : x ≡ 1022 = omega arith in rw z
 down-exponent x (suc c) e =
-    let l : leb 1074 (x + 52) ≡ false = is-false (leb 1074 (x + 52)) (not-T (leb 1074 (x + 52)) (λ t. let k : 1074 ≤ x + 52 = leb→le 1074 (x + 52) t in omega arith)) in
+    let l : leb 1074 (x + 52) ≡ false = is-false (leb 1074 (x + 52))
+    (not-T (leb 1074 (x + 52)) (λ t. let k : 1074 ≤ x + 52 = leb→le 1074 (x + 52) t in omega arith)) in
     let k : 1074 - suc (x + 52) ≡ c = omega arith in
     simp (l, k)
 

@@ -3,7 +3,8 @@
 use mathlib.Core.Path.{_≡_, refl, sym, ap, _∙_, subst}
 use mathlib.Core.Logic.{_⊎_, inl, inr}
 use Prim.Native.Nat.{ℕ, zero, suc, _+_, _-_, _*_, _/_, _^_, _≤_, _<_}
-use native.Mathlib.Nat.{le-trans, le-of-eq, le-of-lt, mul-one, mul-right-comm, suc-mul, add-mul, div-lt-iff-lt-mul, mul-comm, mul-le-mul, mul-le-mul-right, mul-pos, div-mul-le-self}
+use native.Mathlib.Nat.{le-trans, le-of-eq, le-of-lt, mul-one, mul-right-comm, suc-mul, add-mul, div-lt-iff-lt-mul, mul-comm, mul-le-mul}
+use native.Mathlib.Nat.{mul-le-mul-right, mul-pos, div-mul-le-self}
 use native.Mathlib.Omega.{arith}
 use mathlib.Core.Bool.{Bool, true, false, not, true≢false}
 use lib.IntN.{ℤ, pos}
@@ -109,7 +110,8 @@ div-down (inf s) w n p N v = absurd p
 div-down (fin s m e) nan n p N v = absurd v
 div-down (fin s m e) (inf t) n p N v = absurd v
 div-down (fin s m e) (fin true q d) n p N v = absurd (true≢false (v .0))
-div-down (fin s m e) (fin false zero d) n p N v = absurd (let h : 0 * up d * 1 ≡ n * down d = v .1 in let k : 0 < n * down d = mul-pos N (down-pos d) in omega arith)
+div-down (fin s m e) (fin false zero d) n p N v =
+    absurd (let h : 0 * up d * 1 ≡ n * down d = v .1 in let k : 0 < n * down d = mul-pos N (down-pos d) in omega arith)
 div-down (fin s m e) (fin false (suc q) d) n p N v =
     let h : suc q * up d * 1 ≡ n * down d = v .1 in
     let k : 1 * down d ≤ n * down d = mul-le-mul-right (down d) N in
@@ -137,7 +139,9 @@ add-down (fin false m e) (inr k, h) =
 -- ---- the steps
 pub step-within : (z h : Float) (n : ℕ) → Down z → 0 < n → n ≤ 2 ^ 53 → Within false h → Within false (step z n h)
 unfolding step ofInt ofBits
-step-within z h n p N k q = add-down (div binary64 (mul binary64 z h) (ofInt binary64 (pos n))) (div-down (mul binary64 z h) (ofInt binary64 (pos n)) n (mul-down z h p q) N (round-whole binary64 false n k))
+step-within z h n p N k q =
+    add-down (div binary64 (mul binary64 z h) (ofInt binary64 (pos n)))
+    (div-down (mul binary64 z h) (ofInt binary64 (pos n)) n (mul-down z h p q) N (round-whole binary64 false n k))
 
 pub steps-within : (z h : Float) (n : ℕ) → Down z → n ≤ 2 ^ 53 → Within false h → Within false (steps z n h)
 unfolding steps
@@ -145,7 +149,9 @@ steps-within z h zero p k q = q
 steps-within z h (suc n) p k q = steps-within z (step z (suc n) h) n p (omega arith) (step-within z h (suc n) p (omega arith) k q)
 
 -- ---- z itself: the part of y below 0 that is left once its c whole ones are taken off, times L
-pub opened : (m : ℕ) (e : ℤ) (q : ℕ) (d : ℤ) → sub binary64 (fin true m e) (neg (fin false q d)) ≡ sum binary64 true (m * up e * down d) false (q * up d * down e) (down e * down d)
+pub opened :
+    (m : ℕ) (e : ℤ) (q : ℕ) (d : ℤ) →
+    sub binary64 (fin true m e) (neg (fin false q d)) ≡ sum binary64 true (m * up e * down d) false (q * up d * down e) (down e * down d)
 unfolding sub
 opened m e q d = refl
 
@@ -156,7 +162,9 @@ more-or-none a b h = go (ltb b a) (nltb→le b a)
     go true k = inl refl
     go false k = let l : a ≤ b = k tt in inr (omega arith)
 
-rest-down : (m : ℕ) (e : ℤ) (w : Float) (c : ℕ) → c * down e ≤ m * up e → m * up e < suc c * down e → HasValue w false c 1 → Down (sub binary64 (fin true m e) (neg w))
+rest-down :
+    (m : ℕ) (e : ℤ) (w : Float) (c : ℕ) → c * down e ≤ m * up e → m * up e < suc c * down e → HasValue w false c 1 →
+    Down (sub binary64 (fin true m e) (neg w))
 rest-down m e nan c a b v = absurd v
 rest-down m e (inf t) c a b v = absurd v
 rest-down m e (fin true q d) c a b v = absurd (true≢false (v .0))
@@ -165,10 +173,12 @@ rest-down m e (fin false q d) c a b v =
     let y : m * up e * down d ≤ suc c * down e * down d = mul-le-mul-right (down d) (le-of-lt b) in
     let u : q * up d ≡ c * down d = sym (mul-one (q * up d)) ∙ v .1 in
     let r : q * up d * down e ≡ c * down e * down d = ap (λ (k : ℕ). k * down e) u ∙ mul-right-comm c (down d) (down e) in
-    let s : suc c * down e * down d ≡ c * down e * down d + down e * down d = ap (λ (k : ℕ). k * down d) (suc-mul c (down e)) ∙ add-mul (c * down e) (down e) (down d) in
+    let s : suc c * down e * down d ≡ c * down e * down d + down e * down d =
+    ap (λ (k : ℕ). k * down d) (suc-mul c (down e)) ∙ add-mul (c * down e) (down e) (down d) in
     let l : q * up d * down e ≤ m * up e * down d = omega arith in
     rw (opened m e q d, sum-away binary64 true (m * up e * down d) (q * up d * down e) (down e * down d) l)
-    (round-down (ltb (q * up d * down e) (m * up e * down d)) (m * up e * down d - q * up d * down e) (down e * down d) (mul-pos (down-pos e) (down-pos d)) (omega arith)
+    (round-down (ltb (q * up d * down e) (m * up e * down d)) (m * up e * down d - q * up d * down e) (down e * down d)
+    (mul-pos (down-pos e) (down-pos d)) (omega arith)
     (more-or-none (m * up e * down d) (q * up d * down e) l))
 
 L-within : Within false L
@@ -208,13 +218,17 @@ unfolding ofInt ofBits
 steps-of-rest m e h =
     let c = m * up e / down e in
     let z = fin true m e ⊖ neg (whole c) in
-    let r = rest-down m e (whole c) c (div-mul-le-self (m * up e) (down e)) (div-lt-iff-lt-mul (down-pos e) .0 (lt-add-one' c)) (round-whole binary64 false c (omega arith)) in
+    let r =
+    rest-down m e (whole c) c (div-mul-le-self (m * up e) (down e)) (div-lt-iff-lt-mul (down-pos e) .0 (lt-add-one' c))
+    (round-whole binary64 false c (omega arith)) in
     steps-within (z ⊗ L) one 20 (mul-down z L r L-within) (lit≤ tt) (refl, lit≤ tt)
   where
     lt-add-one' : (c : ℕ) → c < suc c
     lt-add-one' c = omega arith
 
-minus-within : (m : ℕ) (e : ℤ) (k : ℕ) → m * up e / down e ≤ 1022 → Within false (steps ((fin true m e ⊖ neg (whole (m * up e / down e))) ⊗ L) 20 one ⊗ minusPower k)
+minus-within :
+    (m : ℕ) (e : ℤ) (k : ℕ) → m * up e / down e ≤ 1022 →
+    Within false (steps ((fin true m e ⊖ neg (whole (m * up e / down e))) ⊗ L) 20 one ⊗ minusPower k)
 minus-within m e k h = mul-within (steps ((fin true m e ⊖ neg (whole (m * up e / down e))) ⊗ L) 20 one) (minusPower k) (steps-of-rest m e h) (power-within k)
 
 nought-within : Within false nought
@@ -226,7 +240,10 @@ unfolding ofBits
 one-within = (refl, lit≤ tt)
 
 -- the definition, by what its two tests say
-by-tests : (y : Float) (a b : Bool) → lt y nought ≡ a → lt (cutOf y) least ≡ b → (lt y nought ≡ true → lt (cutOf y) least ≡ false → Within false (steps ((y ⊖ cutOf y) ⊗ L) 20 one ⊗ minusPower (wholes (cutOf y)))) → Within false (twoTo y)
+by-tests :
+    (y : Float) (a b : Bool) → lt y nought ≡ a → lt (cutOf y) least ≡ b →
+    (lt y nought ≡ true → lt (cutOf y) least ≡ false → Within false (steps ((y ⊖ cutOf y) ⊗ L) 20 one ⊗ minusPower (wholes (cutOf y)))) →
+    Within false (twoTo y)
 unfolding twoTo
 by-tests y true true p q h = rw (p, q) nought-within
 by-tests y true false p q h = rw (p, q) (h p q)
@@ -246,7 +263,9 @@ unfolding lt ofBits cutOf neg ofInt round
 inf-not-least true p q = true≢false q
 inf-not-least false p q = true≢false (sym p)
 
-finite-within : (s : Bool) (m : ℕ) (e : ℤ) → lt (fin s m e) nought ≡ true → lt (cutOf (fin s m e)) least ≡ false → Within false (steps ((fin s m e ⊖ cutOf (fin s m e)) ⊗ L) 20 one ⊗ minusPower (wholes (cutOf (fin s m e))))
+finite-within :
+    (s : Bool) (m : ℕ) (e : ℤ) → lt (fin s m e) nought ≡ true → lt (cutOf (fin s m e)) least ≡ false →
+    Within false (steps ((fin s m e ⊖ cutOf (fin s m e)) ⊗ L) 20 one ⊗ minusPower (wholes (cutOf (fin s m e))))
 unfolding cutOf
 finite-within true m e p q = minus-within m e (wholes (neg (whole (m * up e / down e)))) (no-less (m * up e / down e) q)
 finite-within false m e p q = absurd (plus-not-below m e p)

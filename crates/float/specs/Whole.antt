@@ -1,7 +1,9 @@
 -- Whole numbers as doubles: `whole n` is n as a double. Up to 2 ^ 53 sums, differences, products, remainders and comparisons of them are those of the numbers. Assumes nothing.
 use mathlib.Core.Path.{_≡_, refl, sym, ap, _∙_, subst}
 use Prim.Native.Nat.{ℕ, zero, suc, _+_, _-_, _*_, _/_, _%_, _^_, _≤_, _<_}
-use native.Mathlib.Nat.{le-trans, le-of-eq, le-of-lt, mul-one, mul-comm, mul-assoc, mul-mul-mul-comm, add-mul, mul-le-mul-right, mul-lt-mul-of-pos-right, lt-of-mul-lt-mul-right, eq-of-mul-eq-mul-right, mul-sub, mul-pos, mul-mod-left, mul-div-cancel, mod-lt, eq-or-lt-of-le}
+use native.Mathlib.Nat.{le-trans, le-of-eq, le-of-lt, mul-one, mul-comm, mul-assoc, mul-mul-mul-comm, add-mul, mul-le-mul-right}
+use native.Mathlib.Nat.{mul-lt-mul-of-pos-right, lt-of-mul-lt-mul-right, eq-of-mul-eq-mul-right, mul-sub, mul-pos, mul-mod-left, mul-div-cancel}
+use native.Mathlib.Nat.{mod-lt, eq-or-lt-of-le}
 use native.Mathlib.Omega.{arith}
 use mathlib.Core.Bool.{Bool, true, false, _&&_, _||_, true≢false}
 use lib.IntN.{ℤ}
@@ -74,7 +76,8 @@ sub-is (fin false m e) (fin false l d) n k g p q =
     let h : k * (down e * down d) ≤ n * (down e * down d) = mul-le-mul-right (down e * down d) g in
     let s : (n - k) * (down e * down d) ≡ n * (down e * down d) - k * (down e * down d) =
     mul-comm (n - k) (down e * down d) ∙ mul-sub (down e * down d) n k ∙ rw (mul-comm (down e * down d) n, mul-comm (down e * down d) k) in
-    sub-opened binary64 m e l d ∙ add-fin binary64 false m e true l d ∙ sum-away binary64 false (m * up e * down d) (l * up d * down e) (down e * down d) (omega arith)
+    sub-opened binary64 m e l d ∙ add-fin binary64 false m e true l d
+    ∙ sum-away binary64 false (m * up e * down d) (l * up d * down e) (down e * down d) (omega arith)
     ∙ rounded (n - k) (m * up e * down d - l * up d * down e) (down e * down d) (mul-pos (down-pos e) (down-pos d)) (omega arith)
 
 pub sub-whole : (n k : ℕ) → n ≤ 2 ^ 53 → k ≤ n → whole n ⊖ whole k ≡ whole (n - k)
@@ -90,11 +93,14 @@ mul-is (fin false m e) (fin true l d) n k p q = absurd (true≢false (q .0))
 mul-is (fin false m e) (fin false l d) n k p q =
     mul-fin binary64 false m e false l d
     ∙ rounded (n * k) (m * up e * (l * up d)) (down e * down d) (mul-pos (down-pos e) (down-pos d))
-    (ap (λ (i : ℕ). i * (l * up d)) (sym (mul-one (m * up e)) ∙ p .1) ∙ ap (λ (i : ℕ). n * down e * i) (sym (mul-one (l * up d)) ∙ q .1) ∙ mul-mul-mul-comm n (down e) k (down d))
+    (ap (λ (i : ℕ). i * (l * up d)) (sym (mul-one (m * up e)) ∙ p .1) ∙ ap (λ (i : ℕ). n * down e * i) (sym (mul-one (l * up d)) ∙ q .1)
+    ∙ mul-mul-mul-comm n (down e) k (down d))
 
 -- ---- comparisons
 ltb-scaled : (n k c : ℕ) → 0 < c → ltb (n * c) (k * c) ≡ ltb n k
-ltb-scaled n k c C = same (ltb (n * c) (k * c)) (ltb n k) (λ t. lt→ltb n k (lt-of-mul-lt-mul-right c (ltb→lt (n * c) (k * c) t))) (λ t. lt→ltb (n * c) (k * c) (mul-lt-mul-of-pos-right (ltb→lt n k t) C))
+ltb-scaled n k c C =
+    same (ltb (n * c) (k * c)) (ltb n k) (λ t. lt→ltb n k (lt-of-mul-lt-mul-right c (ltb→lt (n * c) (k * c) t)))
+    (λ t. lt→ltb (n * c) (k * c) (mul-lt-mul-of-pos-right (ltb→lt n k t) C))
 
 pub lt-is : (x y : Float) (n k : ℕ) → Is x n → Is y k → lt x y ≡ ltb n k
 unfolding lt
@@ -108,7 +114,9 @@ lt-is (fin false m e) (fin false l d) n k p q =
     rw (size m e n (down d) (p .1), size' l d k (down e) (q .1)) (ltb-scaled n k (down e * down d) (mul-pos (down-pos e) (down-pos d)))
 
 eqb-scaled : (n k c : ℕ) → 0 < c → eqb (n * c) (k * c) ≡ eqb n k
-eqb-scaled n k c C = same (eqb (n * c) (k * c)) (eqb n k) (λ t. eq→eqb (eq-of-mul-eq-mul-right c C n k (eqb→eq (n * c) (k * c) t))) (λ t. eq→eqb (ap (λ (i : ℕ). i * c) (eqb→eq n k t)))
+eqb-scaled n k c C =
+    same (eqb (n * c) (k * c)) (eqb n k) (λ t. eq→eqb (eq-of-mul-eq-mul-right c C n k (eqb→eq (n * c) (k * c) t)))
+    (λ t. eq→eqb (ap (λ (i : ℕ). i * c) (eqb→eq n k t)))
 
 and-true : (b : Bool) → (b && true) ≡ b
 and-true true = refl
@@ -156,7 +164,9 @@ le-is x y n k p q = le-opened x y ∙ rw (lt-is x y n k p q, eq-is x y n k p q) 
 mod-scaled : (n k c : ℕ) → 0 < k → 0 < c → n * c % (k * c) ≡ n % k * c
 mod-scaled n k c K C = let z : n * c % c ≡ 0 = mul-mod-left n c in mod-mul (n * c) K C ∙ rw (mul-div-cancel n C) (omega arith)
 
-rem-opened : (m : ℕ) (e : ℤ) (l : ℕ) (d : ℤ) → rem binary64 (fin false m e) (fin false (suc l) d) ≡ round binary64 false (m * up e * down d % (suc l * up d * down e)) (down e * down d)
+rem-opened :
+    (m : ℕ) (e : ℤ) (l : ℕ) (d : ℤ) →
+    rem binary64 (fin false m e) (fin false (suc l) d) ≡ round binary64 false (m * up e * down d % (suc l * up d * down e)) (down e * down d)
 unfolding rem
 rem-opened m e l d = cond-no (eqb (suc l) 0) nan (round binary64 false (m * up e * down d % (suc l * up d * down e)) (down e * down d)) (rw eqb·suc-zero tt)
 
@@ -167,7 +177,8 @@ rem-is (fin true m e) y n k K p q = absurd (true≢false (p .0))
 rem-is (fin false m e) nan n k K p q = absurd q
 rem-is (fin false m e) (inf t) n k K p q = absurd q
 rem-is (fin false m e) (fin true l d) n k K p q = absurd (true≢false (q .0))
-rem-is (fin false m e) (fin false zero d) n k K p q = absurd (let h : 0 * up d * 1 ≡ k * down d = q .1 in let g : 0 < k * down d = mul-pos K (down-pos d) in omega arith)
+rem-is (fin false m e) (fin false zero d) n k K p q =
+    absurd (let h : 0 * up d * 1 ≡ k * down d = q .1 in let g : 0 < k * down d = mul-pos K (down-pos d) in omega arith)
 rem-is (fin false m e) (fin false (suc l) d) n k K p q =
     rem-opened m e l d
     ∙ rounded (n % k) (m * up e * down d % (suc l * up d * down e)) (down e * down d) (mul-pos (down-pos e) (down-pos d))
@@ -182,4 +193,6 @@ multiple-is n k h K l =
 
 -- one number only
 pub whole-inj : (n k : ℕ) → n ≤ 2 ^ 53 → k ≤ 2 ^ 53 → whole n ≡ whole k → n ≡ k
-whole-inj n k h l e = eqb→eq n k (subst T (eq-is (whole n) (whole k) n k (whole-is n h) (whole-is k l)) (rw e (subst T (sym (eq-is (whole k) (whole k) k k (whole-is k l) (whole-is k l))) (eqb-refl k))))
+whole-inj n k h l e =
+    eqb→eq n k (subst T (eq-is (whole n) (whole k) n k (whole-is n h) (whole-is k l))
+    (rw e (subst T (sym (eq-is (whole k) (whole k) k k (whole-is k l) (whole-is k l))) (eqb-refl k))))

@@ -16,7 +16,8 @@ use Rattle.gains.specs.Factor.{factorOf, sinceOf, gainsBy}
 use Rattle.gains.specs.Walk.{firstOf, nextOf}
 
 abbrev pub passFrom : List MicroId → (count : ℕ) (lambda t : Float) → Pass
-passFrom ids count lambda t = record { walk = firstOf ids t; count = min count linksMost; carries = false; carry = firstOf ids t .key; at = 0; factor = factorOf lambda t t }
+passFrom ids count lambda t =
+    record { walk = firstOf ids t; count = min count linksMost; carries = false; carry = firstOf ids t .key; at = 0; factor = factorOf lambda t t }
 
 abbrev pub placeOf : Pass → ℕ
 placeOf s = min (cond (s .carries) (s .at) (s .walk .p)) (linksMost - 1)
@@ -26,7 +27,19 @@ abbrev pub carriedOf : Pass → Link → Turn
 carriedOf s l =
     cond (ltb (s .at) (min (s .count) linksMost))
     (record { link = s .carry; gained = false; pass = record { walk = s .walk; count = s .count; carries = s .carries; carry = l; at = s .at + 1; factor = s .factor } })
-    (record { link = s .carry; gained = true; pass = record { walk = s .walk; count = min (s .count) linksMost + 1; carries = false; carry = s .carry; at = s .at; factor = s .factor } })
+    (record {
+      link = s .carry;
+      gained = true;
+      pass = record {
+        walk = s .walk;
+        count = min
+            (s .count) linksMost + 1;
+        carries = false;
+        carry = s .carry;
+        at = s .at;
+        factor = s .factor;
+      };
+    })
 
 -- l stands before the key: one more is passed
 abbrev pub passedOf : Pass → Link → Turn
@@ -41,7 +54,19 @@ passedOf s l =
 abbrev pub insertedOf : (lambda t : Float) → Pass → Link → Turn
 insertedOf lambda t s l =
     cond (ltb (s .count) linksMost)
-    (record { link = l; gained = false; pass = record { walk = s .walk; count = s .count; carries = true; carry = gains lambda t (s .walk .key); at = s .walk .p; factor = s .factor } })
+    (record {
+      link = l;
+      gained = false;
+      pass = record {
+        walk = s .walk;
+        count = s .count;
+        carries = true;
+        carry = gains lambda t
+            (s .walk .key);
+        at = s .walk .p;
+        factor = s .factor;
+      };
+    })
     (record { link = l; gained = true; pass = s })
 
 -- the pass with f kept for the next gain

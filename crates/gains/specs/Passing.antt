@@ -44,7 +44,8 @@ pub record Carrying (lambda t : Float) (ids : List MicroId) (k : ℕ) (goal ls :
 -- the factor kept is right, and the walk goes on or a link is carried; ls is the array of links; goal is the list that all gains make
 abbrev pub Passing : (lambda t : Float) (ids : List MicroId) (k : ℕ) (goal ls : List Link) → Pass → Type 0
 Passing lambda t ids k goal ls s =
-    Right lambda t (s .factor) × (((s .carries ≡ false) × Walking lambda t ids k goal ls (s .count) (s .walk)) ⊎ ((s .carries ≡ true) × Carrying lambda t ids k goal ls s))
+    Right lambda t (s .factor) × (((s .carries ≡ false) × Walking lambda t ids k goal ls (s .count)
+    (s .walk)) ⊎ ((s .carries ≡ true) × Carrying lambda t ids k goal ls s))
 
 -- how far the end is: a pair passes each link and carries each at most once
 abbrev pub toGo : (ids : List MicroId) (k : ℕ) → Pass → ℕ
@@ -80,7 +81,9 @@ module _ (lambda t : Float) (ids : List MicroId) (k : ℕ) (goal ls : List Link)
     stays = set-getD ls q z
 
     module _ (off : s .carries ≡ false) (h : Walking lambda t ids k goal ls (s .count) (s .walk)) (live : s .walk .j < k) where
-      next-free : (ls′ : List Link) (f : Factor) → Right lambda t f → Walking lambda t ids k goal ls′ (s .count) (nextOf ids k t (s .walk)) → Kept ls′ (nextPass ids k t (fadedBy s f))
+      next-free :
+          (ls′ : List Link) (f : Factor) → Right lambda t f → Walking lambda t ids k goal ls′ (s .count) (nextOf ids k t (s .walk)) →
+          Kept ls′ (nextPass ids k t (fadedBy s f))
       next-free ls′ f right′ w =
           let fewer : pairsLeft ids k (nextOf ids k t (s .walk)) < pairsLeft ids k (s .walk) = less-next h live _ refl in
           ((right′, inl (off, w)), rw off (omega (arith, fewer)))
@@ -115,13 +118,15 @@ module _ (lambda t : Float) (ids : List MicroId) (k : ℕ) (goal ls : List Link)
           )
       inserted false e none = (
         (λ d. never (sym d)),
-        (λ d. subst (λ (l : List Link). Kept l (nextPass ids k t s)) (sym stays) (next-free ls (s .factor) right (step-full h live _ refl none (ltb-false (s .count) linksMost e)))),
+        (λ d. subst (λ (l : List Link). Kept l (nextPass ids k t s)) (sym stays)
+            (next-free ls (s .factor) right (step-full h live _ refl none (ltb-false (s .count) linksMost e)))),
       )
 
       module _ (here : s .walk .p < s .count → q ≡ s .walk .p) where
         met :
             (a b c : Bool) → ltb (s .walk .p) (s .count) ≡ a → before (getD ls q z) (s .walk .key) ≡ b → sameEnds (getD ls q z) (s .walk .key) ≡ c →
-            Goes q (cond a (cond b (passedOf s (getD ls q z)) (cond c (gainedOf lambda t s (getD ls q z)) (insertedOf lambda t s (getD ls q z)))) (insertedOf lambda t s (getD ls q z)))
+            Goes q (cond a (cond b (passedOf s (getD ls q z)) (cond c (gainedOf lambda t s (getD ls q z)) (insertedOf lambda t s (getD ls q z))))
+            (insertedOf lambda t s (getD ls q z)))
         met true true c ea eb ec =
             let p : s .walk .p < s .count = ltb-true _ _ ea in
             let e : q ≡ s .walk .p = here p in (
@@ -137,14 +142,17 @@ module _ (lambda t : Float) (ids : List MicroId) (k : ℕ) (goal ls : List Link)
               (λ d. never (sym d)),
               (λ d. subst (λ (f : Factor). Kept (set ls q (gainedBy t s (getD ls q z) f .link)) (nextPass ids k t (gainedBy t s (getD ls q z) f .pass)))
                   (sym (since-right lambda t (s .factor) (getD ls q z .last) right))
-                  (next-free _ _ refl (subst (λ (m : ℕ). Walking lambda t ids k goal (set ls m (gains lambda t (getD ls m z))) (s .count) (nextOf ids k t (s .walk)))
-                  (sym e) (step-same h live z _ refl p (subst (λ (m : ℕ). before (getD ls m z) (s .walk .key) ≡ false) e eb) (subst (λ (m : ℕ). sameEnds (getD ls m z) (s .walk .key) ≡ true) e ec))))),
+                  (next-free _ _ refl (subst (λ (m : ℕ). Walking lambda t ids k goal (set ls m (gains lambda t (getD ls m z))) (s .count)
+                  (nextOf ids k t (s .walk)))
+                  (sym e) (step-same h live z _ refl p (subst (λ (m : ℕ). before (getD ls m z) (s .walk .key) ≡ false) e eb)
+                  (subst (λ (m : ℕ). sameEnds (getD ls m z) (s .walk .key) ≡ true) e ec))))),
             )
         met true false false ea eb ec =
             let p : s .walk .p < s .count = ltb-true _ _ ea in
             let e : q ≡ s .walk .p = here p in
             inserted (ltb (s .count) linksMost) refl
-            (absent-at (s .walk .key) (s .count) (s .walk .p) ls z p (omega (arith, h .size, h .count)) (subst (λ (m : ℕ). before (getD ls m z) (s .walk .key) ≡ false) e eb) (subst (λ (m : ℕ). sameEnds (getD ls m z) (s .walk .key) ≡ false) e ec))
+            (absent-at (s .walk .key) (s .count) (s .walk .p) ls z p (omega (arith, h .size, h .count))
+            (subst (λ (m : ℕ). before (getD ls m z) (s .walk .key) ≡ false) e eb) (subst (λ (m : ℕ). sameEnds (getD ls m z) (s .walk .key) ≡ false) e ec))
         met false b c ea eb ec = inserted (ltb (s .count) linksMost) refl (absent-end (s .walk .key) (s .count) (s .walk .p) ls (ltb-false _ _ ea))
 
     module _ (on : s .carries ≡ true) (h : Carrying lambda t ids k goal ls s) (here : q ≡ s .at) where
@@ -189,7 +197,8 @@ module _ (lambda t : Float) (ids : List MicroId) (k : ℕ) (goal ls : List Link)
                 inl (
                   refl,
                   h .goes (set ls (s .at) (s .carry)) _ refl (length-set ls (s .at) (s .carry) ∙ h .size)
-                      (subst (λ (m : ℕ). take (s .count + 1) (set ls m (s .carry)) ≡ take (s .at) ls ++ s .carry ∷ rest (s .count) (s .at) ls) (sym p) (carry-end (s .count) (s .at) ls (s .carry) p fits)),
+                      (subst (λ (m : ℕ). take (s .count + 1) (set ls m (s .carry)) ≡ take (s .at) ls ++ s .carry ∷ rest (s .count) (s .at) ls)
+                      (sym p) (carry-end (s .count) (s .at) ls (s .carry) p fits)),
                 ),
               ),
               rw on (omega (arith, fewer)),
@@ -211,7 +220,8 @@ module _ (lambda t : Float) (ids : List MicroId) (k : ℕ) (goal ls : List Link)
       (ltb (s .walk .p) (s .count)) (before (getD ls q z) (s .walk .key)) (sameEnds (getD ls q z) (s .walk .key)) refl refl refl)
   turned (right, inr p) live z q eq r er =
       subst (Goes q) (sym (er ∙ ap (λ (c : Bool). cond c (carriedOf s (getD ls q z)) (lookedOf lambda t s (getD ls q z))) (p .0)))
-      (carried right z q (p .0) (p .1) (eq ∙ ap (λ (c : Bool). min (cond c (s .at) (s .walk .p)) (linksMost - 1)) (p .0) ∙ small (s .at) (omega (arith, p .1 .place, p .1 .free))))
+      (carried right z q (p .0) (p .1) (eq ∙ ap (λ (c : Bool). min (cond c (s .at) (s .walk .p)) (linksMost - 1)) (p .0)
+      ∙ small (s .at) (omega (arith, p .1 .place, p .1 .free))))
 
   pub stepped :
       Passing lambda t ids k goal ls s → s .walk .j < k → (z : Link) (q : ℕ) → q ≡ placeOf s →

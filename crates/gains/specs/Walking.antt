@@ -76,7 +76,8 @@ module _ (ids : List MicroId) (k : ℕ) (among : k ≤ microsMost) (all : length
 
 -- the counts are cut to the places that there are
 pub start :
-    (lambda t : Float) (ids : List MicroId) (many k : ℕ) (ls : List Link) (count n : ℕ) (w : Walk) → length ids ≡ microsMost → k ≡ min many microsMost → length ls ≡ linksMost → n ≡ min count linksMost →
+    (lambda t : Float) (ids : List MicroId) (many k : ℕ) (ls : List Link) (count n : ℕ) (w : Walk) → length ids ≡ microsMost → k
+    ≡ min many microsMost → length ls ≡ linksMost → n ≡ min count linksMost →
     w ≡ firstOf ids t → Walking lambda t ids k (foldl (gainOf lambda t) (take count ls) (pairsOf (take many ids))) ls n w
 start lambda t ids many k ls count n w all among size counted is =
     let goal : List Link = foldl (gainOf lambda t) (take count ls) (pairsOf (take many ids)) in
@@ -113,7 +114,9 @@ stored n p ls new h fits =
     ∙ ap (λ (m : ℕ). take p ls ++ new ∷ drop m (take n ls)) (sym (add-one p))
 
 -- the link at p stands after the key, or the list ends before p
-pub absent-at : (k : Link) (n p : ℕ) (ls : List Link) (z : Link) → p < n → n ≤ length ls → before (getD ls p z) k ≡ false → sameEnds (getD ls p z) k ≡ false → Absent k (rest n p ls)
+pub absent-at :
+    (k : Link) (n p : ℕ) (ls : List Link) (z : Link) → p < n → n ≤ length ls → before (getD ls p z) k ≡ false → sameEnds (getD ls p z) k ≡ false →
+    Absent k (rest n p ls)
 absent-at k n p ls z h fits e f = subst (Absent k) (sym (rest-step n p ls z h fits)) (e, f)
 
 pub absent-end : (k : Link) (n p : ℕ) (ls : List Link) → n ≤ p → Absent k (rest n p ls)
@@ -123,7 +126,9 @@ module _ {lambda t : Float} {ids : List MicroId} {k : ℕ} {goal ls : List Link}
   fits-links : n ≤ length ls
   fits-links = omega (arith, s .size, s .count)
 
-  pub step-before : (z : Link) → w .p < n → before (getD ls (w .p) z) (w .key) ≡ true → Walking lambda t ids k goal ls n (record { i = w .i; j = w .j; p = w .p + 1; key = w .key })
+  pub step-before :
+      (z : Link) → w .p < n → before (getD ls (w .p) z) (w .key) ≡ true →
+      Walking lambda t ids k goal ls n (record { i = w .i; j = w .j; p = w .p + 1; key = w .key })
   step-before z h e =
       let g : w .p < length ls = omega (arith, fits-links, h) in
       record {
@@ -154,7 +159,9 @@ module _ {lambda t : Float} {ids : List MicroId} {k : ℕ} {goal ls : List Link}
     stays n′ true h = omega arith
     stays n′ false h = h
 
-    resumes : (ls′ : List Link) (next : Link) (b : Bool) → before next (w .key) ≡ b → take (w .p) ls′ ≡ take (w .p) ls → Passed next (take (cond b 0 (w .p)) ls′)
+    resumes :
+        (ls′ : List Link) (next : Link) (b : Bool) → before next (w .key) ≡ b → take (w .p) ls′ ≡ take (w .p) ls →
+        Passed next (take (cond b 0 (w .p)) ls′)
     resumes ls′ next true e same = tt
     resumes ls′ next false e same = subst (Passed next) (sym same) (passed-on (w .key) next (take (w .p) ls) e (s .passed))
 
@@ -199,10 +206,12 @@ module _ {lambda t : Float} {ids : List MicroId} {k : ℕ} {goal ls : List Link}
     advance ls′ n′ v is size count place same gain =
         by-cases (decLt (w .j + 1) k)
         (λ h. subst (Walking lambda t ids k goal ls′ n′) (sym (is ∙ next-here h))
-        (advance-to ls′ n′ (w .i) (w .j + 1) size count place same gain (omega (arith, s .pair)) (inl h) (next-in-row ids k (s .among) (s .all) (w .i) (w .j) low live)))
+        (advance-to ls′ n′ (w .i) (w .j + 1) size count place same gain (omega (arith, s .pair)) (inl h)
+        (next-in-row ids k (s .among) (s .all) (w .i) (w .j) low live)))
         (λ h. let g : k ≤ w .j + 1 = omega arith in
         subst (Walking lambda t ids k goal ls′ n′) (sym (is ∙ next-there g))
-        (advance-to ls′ n′ (w .i + 1) (w .i + 1 + 1) size count place same gain (omega arith) (inr refl) (next-row ids k (s .among) (s .all) (w .i) (w .j) low live g)))
+        (advance-to ls′ n′ (w .i + 1) (w .i + 1 + 1) size count place same gain (omega arith) (inr refl)
+        (next-row ids k (s .among) (s .all) (w .i) (w .j) low live g)))
 
     pub step-same :
         (z : Link) (v : Walk) → v ≡ nextOf ids k t w → w .p < n → before (getD ls (w .p) z) (w .key) ≡ false → sameEnds (getD ls (w .p) z) (w .key) ≡ true →
@@ -213,7 +222,8 @@ module _ {lambda t : Float} {ids : List MicroId} {k : ℕ} {goal ls : List Link}
         advance (set ls (w .p) new) n v next (length-set ls (w .p) new ∙ s .size) (s .count) (s .place) (take-set-le (w .p) ls (w .p) new (omega arith))
         (stored n (w .p) ls new h fits-links
         ∙ ap (λ (q : List Link). take (w .p) ls ++ q)
-        (sym (gain-same lambda t room (w .key) (getD ls (w .p) z) (rest n (w .p + 1) ls) e f) ∙ ap (gainIn lambda t room (w .key)) (sym (rest-step n (w .p) ls z h fits-links)))
+        (sym (gain-same lambda t room (w .key) (getD ls (w .p) z) (rest n (w .p + 1) ls) e f)
+        ∙ ap (gainIn lambda t room (w .key)) (sym (rest-step n (w .p) ls z h fits-links)))
         ∙ sym (gain-at room))
 
     pub step-after :
@@ -224,7 +234,8 @@ module _ {lambda t : Float} {ids : List MicroId} {k : ℕ} {goal ls : List Link}
         let b : w .p ≤ length ls = omega (arith, s .place, fits-links) in
         let o : hasRoom (take n ls) ≡ true = lt-ltb (length (take n ls)) linksMost (omega (arith, length-take-le n ls fits-links)) in
         advance ls′ (n + 1) v next size (omega arith) a
-        (sym (take-take (w .p) (n + 1) ls′ a) ∙ ap (take (w .p)) put ∙ take-at (take (w .p) ls) (gains lambda t (w .key) ∷ rest n (w .p) ls) (w .p) (length-take-le (w .p) ls b))
+        (sym (take-take (w .p) (n + 1) ls′ a) ∙ ap (take (w .p)) put
+        ∙ take-at (take (w .p) ls) (gains lambda t (w .key) ∷ rest n (w .p) ls) (w .p) (length-take-le (w .p) ls b))
         (put ∙ ap (λ (q : List Link). take (w .p) ls ++ q) (sym (gain-after lambda t true (w .key) (rest n (w .p) ls) e))
         ∙ sym (gain-at true) ∙ ap (λ (r : Bool). gainIn lambda t r (w .key) (take n ls)) (sym o))
 
@@ -245,7 +256,9 @@ module _ {lambda t : Float} {ids : List MicroId} {k : ℕ} {goal ls : List Link}
         subst (λ (v : Walk). pairsLeft ids k v < pairsLeft ids k w) (sym (next ∙ next-there g))
         (fewer (w .i + 1) (w .i + 1 + 1) (next-row ids k (s .among) (s .all) (w .i) (w .j) low live g)))
       where
-        fewer : (i j : ℕ) → pairsFrom k ids (w .i) (w .j) ≡ pairOf (idAt ids (w .i)) (idAt ids (w .j)) ∷ pairsFrom k ids i j → pairsLeft ids k (walkTo ids t w i j) < pairsLeft ids k w
+        fewer :
+            (i j : ℕ) → pairsFrom k ids (w .i) (w .j) ≡ pairOf (idAt ids (w .i)) (idAt ids (w .j)) ∷ pairsFrom k ids i j →
+            pairsLeft ids k (walkTo ids t w i j) < pairsLeft ids k w
         fewer i j pairs =
             let e : length (pairsFrom k ids (w .i) (w .j)) ≡ suc (length (pairsFrom k ids i j)) = ap length pairs in
             omega (arith, e)

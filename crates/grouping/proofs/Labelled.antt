@@ -34,13 +34,15 @@ seen-cut : (d k n end : ℕ) (pool : List Micro) → d ≡ k → end ≡ min n 6
 seen-cut d k n end pool e c h = ap (λ (j : ℕ). seen j end pool) e ∙ ap (map (microIn k)) (cut-take end n 64 pool c h)
 
 pub weights-cut :
-    (k n end : ℕ) (pool : List Micro) (lambda t : Float) (ws : List Float) → end ≡ min n 64 → length pool ≡ 64 → ws ≡ map (fadedWeight lambda t) (take end pool) →
+    (k n end : ℕ) (pool : List Micro) (lambda t : Float) (ws : List Float) → end ≡ min n 64 → length pool ≡ 64 → ws
+    ≡ map (fadedWeight lambda t) (take end pool) →
     ws ≡ map (fadedWeight lambda t) (seen k n pool)
 weights-cut k n end pool lambda t ws c h e =
     e ∙ ap (map (fadedWeight lambda t)) (cut-take end n 64 pool c h) ∙ sym (map-map (fadedWeight lambda t) (microIn k) (take n pool))
 
 pub roots-cut :
-    (eps2 : Float) (d k n end : ℕ) (pool : List Micro) (es : List (ℕ × ℕ)) (roots : List ℕ) → d ≡ k → end ≡ min n 64 → length pool ≡ 64 → es ≡ pairsFrom eps2 0 (seen d end pool) → roots ≡ rootsOf end es →
+    (eps2 : Float) (d k n end : ℕ) (pool : List Micro) (es : List (ℕ × ℕ)) (roots : List ℕ) → d ≡ k → end ≡ min n 64 → length pool ≡ 64 → es
+    ≡ pairsFrom eps2 0 (seen d end pool) → roots ≡ rootsOf end es →
     roots ≡ rootsOf end (pairsFrom eps2 0 (seen k n pool))
 roots-cut eps2 d k n end pool es roots e c h p r = r ∙ ap (rootsOf end) (p ∙ ap (pairsFrom eps2 0) (seen-cut d k n end pool e c h))
 
@@ -76,7 +78,8 @@ module _ (p : Params) (t : Float) (l : List Micro) (end : ℕ) (size : length l 
       (subst (λ (v : ℕ). v < 64) (sym (getD-take end roots i 0 (omega (arith, first-size)))) (roots-low end few pairs roots er i (omega (arith, first-size))))))
       ∙ ap (λ (r : List ℕ). map (λ (v : ℕ). le (p .mu) (sumFrom (ofBits binary64 0) v r ws)) (take end r)) er
       ∙ ap (λ (w : List Float). map (λ (v : ℕ). le (p .mu) (sumFrom (ofBits binary64 0) v (rootsOf end pairs) w)) (take end (rootsOf end pairs))) ew
-      ∙ ap (λ (n : ℕ). map (λ (v : ℕ). le (p .mu) (sumFrom (ofBits binary64 0) v (rootsOf n pairs) (map (fadedWeight (p .lambda) t) l))) (take n (rootsOf n pairs)))
+      ∙ ap (λ (n : ℕ). map (λ (v : ℕ). le (p .mu) (sumFrom (ofBits binary64 0) v (rootsOf n pairs) (map (fadedWeight (p .lambda) t) l)))
+      (take n (rootsOf n pairs)))
       (sym (length-map l (fadedWeight (p .lambda) t) ∙ size))
 
   labels-are : labelsOf mask roots ≡ labelsIn p t l
@@ -86,12 +89,15 @@ module _ (p : Params) (t : Float) (l : List Micro) (end : ℕ) (size : length l 
       ∙ ap (λ (m : List Bool). labelsBy m pairs) mask-is
 
   -- of the array that holds them
-  pub labelled : (n : ℕ) (r : List ℤ) → end ≡ min n 64 → (counts : List Bool) → take end counts ≡ mask → r ≡ label.labelsIn roots counts end → length r ≡ 64 → take n r ≡ labelsIn p t l
+  pub labelled :
+      (n : ℕ) (r : List ℤ) → end ≡ min n 64 → (counts : List Bool) → take end counts ≡ mask → r ≡ label.labelsIn roots counts end → length r ≡ 64 →
+      take n r ≡ labelsIn p t l
   unfolding label.labelsIn labelsOf
   labelled n r c counts q e h =
       sym (cut-take end n 64 r c h)
       ∙ ap (take end) (e ∙ ap (λ (m : List Bool). labelsOf m roots ++ replicate (64 - min end 64) (negsuc 0)) q)
-      ∙ take-at (labelsOf mask roots) (replicate (64 - min end 64) (negsuc 0)) end (labels-length [] mask roots (omega (arith, mask-size, roots-size)) ∙ mask-size)
+      ∙ take-at (labelsOf mask roots) (replicate (64 - min end 64) (negsuc 0)) end
+      (labels-length [] mask roots (omega (arith, mask-size, roots-size)) ∙ mask-size)
       ∙ labels-are
 
 pub seen-size : (d n end : ℕ) (pool : List Micro) → end ≡ min n 64 → length pool ≡ 64 → length (seen d n pool) ≡ end

@@ -26,9 +26,12 @@ pairs-snoc [] (b ∷ ys) x y h = absurd (omega arith)
 pairs-snoc (a ∷ xs) [] x y h = absurd (omega arith)
 pairs-snoc (a ∷ xs) (b ∷ ys) x y h = ap (λ (r : List (ℕ × ℕ)). (a, b) ∷ r) (pairs-snoc xs ys x y (let k : length xs ≡ length ys = omega arith in k))
 
-one-more : (a b : List ℕ) (k i j : ℕ) → k < length a → length a ≡ length b → pairsOf (take (k + 1) (set a k i)) (take (k + 1) (set b k j)) ≡ pairsOf (take k a) (take k b) ++ (i, j) ∷ []
+one-more :
+    (a b : List ℕ) (k i j : ℕ) → k < length a → length a ≡ length b →
+    pairsOf (take (k + 1) (set a k i)) (take (k + 1) (set b k j)) ≡ pairsOf (take k a) (take k b) ++ (i, j) ∷ []
 one-more a b k i j h e =
-    ap₂ pairsOf (ap (λ (n : ℕ). take n (set a k i)) (add-one k) ∙ take-suc-set a k i h) (ap (λ (n : ℕ). take n (set b k j)) (add-one k) ∙ take-suc-set b k j (omega arith))
+    ap₂ pairsOf (ap (λ (n : ℕ). take n (set a k i)) (add-one k) ∙ take-suc-set a k i h)
+    (ap (λ (n : ℕ). take n (set b k j)) (add-one k) ∙ take-suc-set b k j (omega arith))
     ∙ pairs-snoc (take k a) (take k b) i j (length-take k a ∙ ap (min k) e ∙ sym (length-take k b))
 
 -- ---- a row: the pairs of place i with the places from j on
@@ -39,11 +42,15 @@ module _ (eps2 : Float) (i : ℕ) (centre : List Float) (dim n : ℕ) (l : List 
   abbrev reach : Float
   reach = ofBits binary64 0x4010_0000_0000_0000 ⊗ eps2
 
-  left-step : (j : ℕ) (z : Micro) → j < n → n ≤ length l → left j ≡ cond (close eps2 centre (take dim (getD l j z .cf .mean))) ((i, j) ∷ left (j + 1)) (left (j + 1))
+  left-step :
+      (j : ℕ) (z : Micro) → j < n → n ≤ length l →
+      left j ≡ cond (close eps2 centre (take dim (getD l j z .cf .mean))) ((i, j) ∷ left (j + 1)) (left (j + 1))
   unfolding rowFrom
   left-step j z h k = ap (λ (r : List Micro). rowFrom eps2 i centre j (map (microIn dim) r)) (rest-step n j l z h k)
 
-  left-is : (j : ℕ) (z : Micro) (v : Float) (t : Bool) → j < n → n ≤ length l → v ≡ sqDist centre (take dim (getD l j z .cf .mean)) → le v reach ≡ t → left j ≡ cond t ((i, j) ∷ left (j + 1)) (left (j + 1))
+  left-is :
+      (j : ℕ) (z : Micro) (v : Float) (t : Bool) → j < n → n ≤ length l → v ≡ sqDist centre (take dim (getD l j z .cf .mean)) → le v reach ≡ t →
+      left j ≡ cond t ((i, j) ∷ left (j + 1)) (left (j + 1))
   left-is j z v t h k e w = left-step j z h k ∙ ap (λ (b : Bool). cond b ((i, j) ∷ left (j + 1)) (left (j + 1))) (ap (λ (d : Float). le d reach) (sym e) ∙ w)
 
   left-end : (j : ℕ) → n ≤ j → left j ≡ []
@@ -60,7 +67,8 @@ module _ (eps2 : Float) (i : ℕ) (centre : List Float) (dim n : ℕ) (l : List 
     pub done : pairsOf (take k a) (take k b) ++ left j ≡ all
     pub counted : k + length (left j) ≡ total
 
-  module _ (all : List (ℕ × ℕ)) (total : ℕ) (a b : List ℕ) (k j : ℕ) (g : Rowed all total a b k j) (h : j < n) (s : n ≤ length l) (z : Micro) (v : Float) (e : v ≡ sqDist centre (take dim (getD l j z .cf .mean))) where
+  module _ (all : List (ℕ × ℕ)) (total : ℕ) (a b : List ℕ) (k j : ℕ) (g : Rowed all total a b k j) (h : j < n) (s : n ≤ length l) (z : Micro)
+      (v : Float) (e : v ≡ sqDist centre (take dim (getD l j z .cf .mean))) where
     pub row-room : le v reach ≡ true → k < 2016
     row-room w =
         let c : k + length (left j) ≡ total = g .counted in
@@ -102,7 +110,9 @@ module _ (eps2 : Float) (i : ℕ) (centre : List Float) (dim n : ℕ) (l : List 
           counted = ap (λ (r : List (ℕ × ℕ)). k + length r) (sym (left-is j z v false h s e w)) ∙ g .counted;
         }
 
-  pub row-end : (all : List (ℕ × ℕ)) (total : ℕ) (a b : List ℕ) (k j : ℕ) → Rowed all total a b k j → n ≤ j → (pairsOf (take k a) (take k b) ≡ all) × ((k ≡ total) × ((length a ≡ 2016) × (length b ≡ 2016)))
+  pub row-end :
+      (all : List (ℕ × ℕ)) (total : ℕ) (a b : List ℕ) (k j : ℕ) → Rowed all total a b k j → n ≤ j →
+      (pairsOf (take k a) (take k b) ≡ all) × ((k ≡ total) × ((length a ≡ 2016) × (length b ≡ 2016)))
   row-end all total a b k j g h =
       let e : left j ≡ [] = left-end j h in (
         sym (append-nil (pairsOf (take k a) (take k b))) ∙ ap (λ (r : List (ℕ × ℕ)). pairsOf (take k a) (take k b) ++ r) (sym e) ∙ g .done,
@@ -119,8 +129,10 @@ module _ (eps2 : Float) (dim n i : ℕ) (l : List Micro) where
   row-start z h k = sym (ap (rowOf eps2 i) (seen-rest ∙ ap (map (microIn dim)) (rest-step n i l z h k)))
 
   pub row-from :
-      (z : Micro) → i < n → n ≤ length l → (a b : List ℕ) (count : ℕ) → length a ≡ 2016 → length b ≡ 2016 → count + length (rowAt eps2 i (seen dim n l)) ≤ 2016 →
-      Rowed eps2 i (take dim (getD l i z .cf .mean)) dim n l (pairsOf (take count a) (take count b) ++ rowAt eps2 i (seen dim n l)) (count + length (rowAt eps2 i (seen dim n l))) a b count (i + 1)
+      (z : Micro) → i < n → n ≤ length l → (a b : List ℕ) (count : ℕ) → length a ≡ 2016 → length b
+      ≡ 2016 → count + length (rowAt eps2 i (seen dim n l)) ≤ 2016 →
+      Rowed eps2 i (take dim (getD l i z .cf .mean)) dim n l (pairsOf (take count a) (take count b) ++ rowAt eps2 i (seen dim n l))
+      (count + length (rowAt eps2 i (seen dim n l))) a b count (i + 1)
   row-from z h k a b count sa sb f =
       record {
         low = omega arith;
@@ -151,7 +163,8 @@ twice-few eps2 i [] = omega arith
 twice-few eps2 i (m ∷ l) =
     let a : length (rowFrom eps2 i (m .cf .mean) (i + 1) l) ≤ length l = row-few eps2 i (m .cf .mean) (i + 1) l in
     let b : 2 * length (pairsFrom eps2 (i + 1) l) + length l ≤ length l * length l = twice-few eps2 (i + 1) l in
-    let c : length (rowFrom eps2 i (m .cf .mean) (i + 1) l ++ pairsFrom eps2 (i + 1) l) ≡ length (rowFrom eps2 i (m .cf .mean) (i + 1) l) + length (pairsFrom eps2 (i + 1) l) = length-append (rowFrom eps2 i (m .cf .mean) (i + 1) l) (pairsFrom eps2 (i + 1) l) in
+    let c : length (rowFrom eps2 i (m .cf .mean) (i + 1) l ++ pairsFrom eps2 (i + 1) l) ≡ length (rowFrom eps2 i (m .cf .mean) (i + 1) l) + length (pairsFrom eps2 (i + 1) l) =
+    length-append (rowFrom eps2 i (m .cf .mean) (i + 1) l) (pairsFrom eps2 (i + 1) l) in
     rw (← add-one (length l)) (omega (arith, next-square (length l)))
 
 pairs-few : (eps2 : Float) (i : ℕ) (l : List Micro) → length l ≤ 64 → length (pairsFrom eps2 i l) ≤ 2016
@@ -196,16 +209,19 @@ module _ (eps2 : Float) (dim n : ℕ) (l : List Micro) where
     pub pair-room : i < n → n ≤ 64 → count + length (rowAt eps2 i (seen dim n l)) ≤ 2016
     pair-room h s =
         let c : count + length (rows i) ≡ length every = g .counted in
-        let d : length (rows i) ≡ length (rowAt eps2 i (seen dim n l)) + length (rows (i + 1)) = ap length (rows-step i h k) ∙ length-append (rowAt eps2 i (seen dim n l)) (rows (i + 1)) in
+        let d : length (rows i) ≡ length (rowAt eps2 i (seen dim n l)) + length (rows (i + 1)) =
+        ap length (rows-step i h k) ∙ length-append (rowAt eps2 i (seen dim n l)) (rows (i + 1)) in
         let f : length every ≤ 2016 = pairs-few eps2 0 (seen dim n l) (omega (arith, length-map (take n l) (microIn dim), length-take n l)) in
         omega arith
 
     pub pair-next :
-        i < n → (a₁ b₁ : List ℕ) (r : ℕ) → pairsOf (take r a₁) (take r b₁) ≡ pairsOf (take count a) (take count b) ++ rowAt eps2 i (seen dim n l) → r ≡ count + length (rowAt eps2 i (seen dim n l)) →
+        i < n → (a₁ b₁ : List ℕ) (r : ℕ) → pairsOf (take r a₁) (take r b₁) ≡ pairsOf (take count a) (take count b) ++ rowAt eps2 i (seen dim n l) → r
+        ≡ count + length (rowAt eps2 i (seen dim n l)) →
         (length a₁ ≡ 2016) × (length b₁ ≡ 2016) → Paired a₁ b₁ r (i + 1)
     pair-next h a₁ b₁ r e q s =
         let c : count + length (rows i) ≡ length every = g .counted in
-        let d : length (rows i) ≡ length (rowAt eps2 i (seen dim n l)) + length (rows (i + 1)) = ap length (rows-step i h k) ∙ length-append (rowAt eps2 i (seen dim n l)) (rows (i + 1)) in
+        let d : length (rows i) ≡ length (rowAt eps2 i (seen dim n l)) + length (rows (i + 1)) =
+        ap length (rows-step i h k) ∙ length-append (rowAt eps2 i (seen dim n l)) (rows (i + 1)) in
         record {
           top = omega arith;
           a-size = s .0;

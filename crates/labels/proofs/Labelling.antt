@@ -82,7 +82,8 @@ module _ (mask : List Bool) (roots : List ℕ) (end : ℕ) (labels : List ℤ) (
         few = few′;
         within = omega arith;
         made = ap (λ (k : ℕ). take k (set labels i (z b)) ++ labelsFrom (take count′ met′) (drop k (take end mask)) (drop k roots)) (add-one i)
-            ∙ ap₂ (λ (ls : List ℤ) (us′ : List ℕ). ls ++ labelsFrom us′ (drop (suc i) (take end mask)) (drop (suc i) roots)) (take-suc-set labels i (z b) (omega (arith, l .size))) e
+            ∙ ap₂ (λ (ls : List ℤ) (us′ : List ℕ). ls ++ labelsFrom us′ (drop (suc i) (take end mask)) (drop (suc i) roots))
+            (take-suc-set labels i (z b) (omega (arith, l .size))) e
             ∙ append-snoc (take i labels) (z b) (labelsFrom (metBy us b v) (drop (suc i) (take end mask)) (drop (suc i) roots))
             ∙ ap₂ (λ (bs : List Bool) (rs : List ℕ). take i labels ++ labelsFrom us bs rs) (sym mask-drop) (sym (drop-cons roots i 0 (omega arith)))
             ∙ l .made;
@@ -96,7 +97,8 @@ module _ (mask : List Bool) (roots : List ℕ) (end : ℕ) (labels : List ℤ) (
 
   -- outside the mask, with an old root, and with a new one
   pub label-out : getD mask i false ≡ false → Labelling mask roots end labels met count (i + 1)
-  label-out e = subst (λ (ls : List ℤ). Labelling mask roots end ls met count (i + 1)) same (labels-next false e met count (l .room) (omega (arith, l .few)) refl)
+  label-out e =
+      subst (λ (ls : List ℤ). Labelling mask roots end ls met count (i + 1)) same (labels-next false e met count (l .room) (omega (arith, l .few)) refl)
     where
       same : set labels i (negsuc 0) ≡ labels
       same = ap (λ (ls : List ℤ). set labels i (getD ls 0 (negsuc 0))) (sym unwritten) ∙ set-getD labels i (negsuc 0)
@@ -106,7 +108,9 @@ module _ (mask : List Bool) (roots : List ℕ) (end : ℕ) (labels : List ℤ) (
       subst (λ (q : ℕ). Labelling mask roots end (set labels i (pos q)) met count (i + 1)) (sym ek)
       (labels-next true e met count (l .room) (omega (arith, l .few)) (sym (meet-old us v (omega (arith, place-le v us, length-us)))))
 
-  pub label-new : getD mask i false ≡ true → (k : ℕ) → k ≡ placeIn v us → k ≡ count → Labelling mask roots end (set labels i (pos k)) (set met k v) (count + 1) (i + 1)
+  pub label-new :
+      getD mask i false ≡ true → (k : ℕ) → k ≡ placeIn v us → k ≡ count →
+      Labelling mask roots end (set labels i (pos k)) (set met k v) (count + 1) (i + 1)
   label-new e k ek n =
       subst (λ (q : ℕ). Labelling mask roots end (set labels i (pos k)) (set met q v) (count + 1) (i + 1)) (sym n)
       (subst (λ (q : ℕ). Labelling mask roots end (set labels i (pos q)) (set met count v) (count + 1) (i + 1)) (sym ek)
@@ -117,11 +121,15 @@ module _ (mask : List Bool) (roots : List ℕ) (end : ℕ) (labels : List ℤ) (
           ap (λ (q : ℕ). take q (set met count v)) (add-one count) ∙ take-suc-set met count v (omega (arith, l .few, l .room))
           ∙ sym (meet-new us v (omega (arith, length-us)))
 
-pub labels-end : (mask : List Bool) (roots : List ℕ) (n end : ℕ) (labels : List ℤ) (met : List ℕ) (count : ℕ) → end ≡ min n 64 → length mask ≡ 64 → Labelling mask roots end labels met count end → labels ≡ labelsIn roots mask n
+pub labels-end :
+    (mask : List Bool) (roots : List ℕ) (n end : ℕ) (labels : List ℤ) (met : List ℕ) (count : ℕ) → end ≡ min n 64 → length mask ≡ 64 →
+    Labelling mask roots end labels met count end →
+    labels ≡ labelsIn roots mask n
 unfolding labelsIn labelsFrom
 labels-end mask roots n end labels met count en lm l =
     sym (take-append-drop end labels)
-    ∙ ap₂ _++_ (written ∙ ap (λ (bs : List Bool). labelsOf bs roots) (cut-take n end mask (omega arith))) (l .rest ∙ ap (λ (k : ℕ). replicate (64 - k) (negsuc 0)) en)
+    ∙ ap₂ _++_ (written ∙ ap (λ (bs : List Bool). labelsOf bs roots) (cut-take n end mask (omega arith)))
+    (l .rest ∙ ap (λ (k : ℕ). replicate (64 - k) (negsuc 0)) en)
   where
     written : take end labels ≡ labelsOf (take end mask) roots
     written =

@@ -32,14 +32,18 @@ sums-start roots weights end =
       made = λ v hv. ap (λ (s : Float). sumFrom s v roots (take end weights)) (getD-replicate 64 v (ofBits binary64 0) nan hv);
     }
 
-module _ (roots : List ℕ) (weights : List Float) (end : ℕ) (sums : List Float) (i : ℕ) (t : Summing roots weights end sums i) (h : i < end) (he : end ≤ 64) (lr : length roots ≡ 64) (lw : length weights ≡ 64) where
+module _ (roots : List ℕ) (weights : List Float) (end : ℕ) (sums : List Float) (i : ℕ) (t : Summing roots weights end sums i) (h : i < end)
+    (he : end ≤ 64) (lr : length roots ≡ 64) (lw : length weights ≡ 64) where
   abbrev r : ℕ
   r = getD roots i 0
 
   abbrev w : Float
   w = getD weights i nan
 
-  sums-next : (sums′ : List Float) → length sums′ ≡ 64 → ((v : ℕ) → v < 64 → getD sums′ v nan ≡ cond (eqb r v) (add binary64 (getD sums v nan) w) (getD sums v nan)) → Summing roots weights end sums′ (i + 1)
+  sums-next :
+      (sums′ : List Float) → length sums′ ≡ 64 →
+      ((v : ℕ) → v < 64 → getD sums′ v nan ≡ cond (eqb r v) (add binary64 (getD sums v nan) w) (getD sums v nan)) →
+      Summing roots weights end sums′ (i + 1)
   sums-next sums′ size′ e =
       record {
         size = size′;
@@ -61,15 +65,21 @@ module _ (roots : List ℕ) (weights : List Float) (end : ℕ) (sums : List Floa
       (λ e.
       subst (λ (k : ℕ). getD (set sums r x) k nan ≡ cond (eqb r k) (add binary64 (getD sums k nan) w) (getD sums k nan)) e
       (getD-set-same sums r x nan (omega (arith, t .size)) ∙ sym (ap (λ (b : Bool). cond b x (getD sums r nan)) (eq-eqb r r refl))))
-      (λ e. getD-set-other sums r v x nan (λ q. e (sym q)) ∙ sym (ap (λ (b : Bool). cond b (add binary64 (getD sums v nan) w) (getD sums v nan)) (ne-eqb r v e))))
+      (λ e. getD-set-other sums r v x nan (λ q. e (sym q))
+      ∙ sym (ap (λ (b : Bool). cond b (add binary64 (getD sums v nan) w) (getD sums v nan)) (ne-eqb r v e))))
     where
       x : Float
       x = add binary64 (getD sums r nan) w
 
   pub sums-pass : 64 ≤ r → Summing roots weights end sums (i + 1)
-  sums-pass hr = sums-next sums (t .size) (λ v hv. sym (ap (λ (b : Bool). cond b (add binary64 (getD sums v nan) w) (getD sums v nan)) (ne-eqb r v (λ (e : r ≡ v). omega arith))))
+  sums-pass hr =
+      sums-next sums (t .size) (λ v hv. sym (ap (λ (b : Bool). cond b (add binary64 (getD sums v nan) w) (getD sums v nan))
+      (ne-eqb r v (λ (e : r ≡ v). omega arith))))
 
-pub sums-end : (roots : List ℕ) (weights : List Float) (n end : ℕ) (sums : List Float) → end ≡ min n 64 → length weights ≡ 64 → Summing roots weights end sums end → sums ≡ sumsOf roots (take n weights)
+pub sums-end :
+    (roots : List ℕ) (weights : List Float) (n end : ℕ) (sums : List Float) → end ≡ min n 64 → length weights ≡ 64 →
+    Summing roots weights end sums end →
+    sums ≡ sumsOf roots (take n weights)
 unfolding sumsOf
 sums-end roots weights n end sums en lw t =
     ext-getD nan sums (table 64 sum) (t .size ∙ sym (table-length 64 sum))

@@ -57,7 +57,11 @@ module _ {P : ℕ → Type 0} (v : ℕ) (roots : List ℕ) (h : (k : ℕ) → k 
 pub sums-tell : (n : ℕ) → n ≤ 64 → (es : List (ℕ × ℕ)) (ws : List Float) → length ws ≡ n → (i : ℕ) → i < n → (x : Float)
     → Summed (λ k. Chain (Joined n es) k i) 0 (ofBits binary64 0) ws x ↔ (x ≡ getD (sumsOf (rootsOf n es) ws) (getD (rootsOf n es) i 0) nan)
 unfolding sumsOf
-sums-tell n hn es ws size i hi x = (λ s. sum-is v roots same s fits ∙ sym at, λ e. subst (Summed P 0 (ofBits binary64 0) ws) (sym (e ∙ at)) (is-sum v roots same 0 (ofBits binary64 0) ws fits))
+sums-tell n hn es ws size i hi x = (
+  λ s. sum-is v roots same s fits ∙ sym at,
+  λ e. subst (Summed P 0 (ofBits binary64 0) ws) (sym (e ∙ at))
+      (is-sum v roots same 0 (ofBits binary64 0) ws fits),
+)
   where
     roots : List ℕ
     roots = rootsOf n es

@@ -159,7 +159,8 @@ smaller us (b ∷ bs) (r ∷ rs) zero k m e h = inl (at-first b e)
     at-first : (t : Bool) → cond t (pos (placeIn r us)) (negsuc 0) ≡ pos k → m < length us
     at-first true q = let z : placeIn r us ≡ k = cc in let l : placeIn r us ≤ length us = place-le r us in omega arith
     at-first false q = absurd (not-neg q)
-smaller us (b ∷ bs) (r ∷ rs) (suc i) k m e h = ⊎-elim (first b) (λ w. inr (suc (w .0), (let l : w .0 < i = w .1 in omega arith), w .2)) (smaller (metBy us b r) bs rs i k m e h)
+smaller us (b ∷ bs) (r ∷ rs) (suc i) k m e h =
+    ⊎-elim (first b) (λ w. inr (suc (w .0), (let l : w .0 < i = w .1 in omega arith), w .2)) (smaller (metBy us b r) bs rs i k m e h)
   where
     Before : Bool → Type 0
     Before t = (m < length us) ⊎ ((j : ℕ) × (j < suc i) × (labelAt (cond t (pos (placeIn r us)) (negsuc 0) ∷ labelsFrom (metBy us b r) bs rs) j ≡ pos m))
@@ -180,7 +181,9 @@ pub record LabelsTell (n : ℕ) (es : List (ℕ × ℕ)) (mask : List Bool) (lab
   -- −1 stands exactly outside the mask
   pub outside : (i : ℕ) → i < n → (labelAt labels i ≡ negsuc 0) ↔ Outside mask i
   -- two labels are equal exactly when both places are outside, or both inside and chained
-  pub equal : (i j : ℕ) → i < n → j < n → (labelAt labels i ≡ labelAt labels j) ↔ ((Outside mask i × Outside mask j) ⊎ (Inside mask i × Inside mask j × Chain (Joined n es) i j))
+  pub equal :
+      (i j : ℕ) → i < n → j < n →
+      (labelAt labels i ≡ labelAt labels j) ↔ ((Outside mask i × Outside mask j) ⊎ (Inside mask i × Inside mask j × Chain (Joined n es) i j))
   -- labels count from 0 by first member: each smaller one stands before
   pub fromZero : (i k m : ℕ) → i < n → labelAt labels i ≡ pos k → m < k → (j : ℕ) × (j < i) × (labelAt labels j ≡ pos m)
 
@@ -200,7 +203,9 @@ labels-tell n hn es mask size =
     tell : RootsTell n es roots
     tell = roots-tell n hn es
 
-    in-at : (i : ℕ) → i < n → Inside mask i → Met (allMet [] mask roots) (getD roots i 0) × (labelAt (labelsFrom [] mask roots) i ≡ pos (placeIn (getD roots i 0) (allMet [] mask roots)))
+    in-at :
+        (i : ℕ) → i < n → Inside mask i →
+        Met (allMet [] mask roots) (getD roots i 0) × (labelAt (labelsFrom [] mask roots) i ≡ pos (placeIn (getD roots i 0) (allMet [] mask roots)))
     in-at i hi h = label-inside [] mask roots i (omega (arith, tell .count)) h
 
     weak : (i : ℕ) → i < n → (t : Bool) → getD mask i false ≡ t → labelAt (labelsFrom [] mask roots) i ≡ negsuc 0 → Outside mask i
@@ -210,7 +215,10 @@ labels-tell n hn es mask size =
     Same : ℕ → ℕ → Type 0
     Same i j = (Outside mask i × Outside mask j) ⊎ (Inside mask i × Inside mask j × Chain (Joined n es) i j)
 
-    to : (i j : ℕ) → i < n → j < n → (t u : Bool) → getD mask i false ≡ t → getD mask j false ≡ u → labelAt (labelsFrom [] mask roots) i ≡ labelAt (labelsFrom [] mask roots) j → Same i j
+    to :
+        (i j : ℕ) → i < n → j < n → (t u : Bool) → getD mask i false ≡ t → getD mask j false ≡ u →
+        labelAt (labelsFrom [] mask roots) i ≡ labelAt (labelsFrom [] mask roots) j →
+        Same i j
     to i j hi hj true true p q e =
         let a = in-at i hi p in
         let b = in-at j hj q in
@@ -229,7 +237,9 @@ labels-tell n hn es mask size =
         ∙ sym (in-at j hj (w .1) .1))
 
 -- of the array that `labels` gives, the first n are these
-pub labels-first : (roots : List ℕ) (mask : List Bool) (n : ℕ) → n ≤ 64 → length mask ≡ 64 → length roots ≡ 64 → take n (labelsIn roots mask n) ≡ labelsOf (take n mask) roots
+pub labels-first :
+    (roots : List ℕ) (mask : List Bool) (n : ℕ) → n ≤ 64 → length mask ≡ 64 → length roots ≡ 64 →
+    take n (labelsIn roots mask n) ≡ labelsOf (take n mask) roots
 unfolding labelsIn labelsOf
 labels-first roots mask n hn lm lr =
     let size : length (take n mask) ≡ n = length-take-le n mask (omega arith) in

@@ -29,8 +29,11 @@ abbrev pub Claim : Adwin → Float → Verdict → Adwin → Type 0
 Claim h n v w = Said h n v w × (Refused h v w × Ignored h n w)
 
 -- a goal P ∗ Q where Q is had of nothing
-pub says-all : {M : Type 1} {𝓤 : URA M} {H : Heap 𝓤} {A : Atoms 𝓤} {K : Type 0} {W : Given 𝓤 H A} {Γ : List (Item 𝓤)} → K → {P Q : SProp 𝓤} → ent 𝓤 (emp 𝓤) Q → Step K W Γ (prop P) Γ (prop (sep 𝓤 P Q))
-says-all {𝓤 = 𝓤} t {P} {Q} x = step (λ s. record { prf = via 𝓤 P (s .prf) (via 𝓤 (sep 𝓤 (emp 𝓤) P) (emp∗ 𝓤 P) (via 𝓤 (sep 𝓤 Q P) (monoL 𝓤 P x) (comm∗ 𝓤 Q P))) })
+pub says-all :
+    {M : Type 1} {𝓤 : URA M} {H : Heap 𝓤} {A : Atoms 𝓤} {K : Type 0} {W : Given 𝓤 H A} {Γ : List (Item 𝓤)} → K → {P Q : SProp 𝓤} → ent 𝓤 (emp 𝓤) Q →
+    Step K W Γ (prop P) Γ (prop (sep 𝓤 P Q))
+says-all {𝓤 = 𝓤} t {P} {Q} x =
+    step (λ s. record { prf = via 𝓤 P (s .prf) (via 𝓤 (sep 𝓤 (emp 𝓤) P) (emp∗ 𝓤 P) (via 𝓤 (sep 𝓤 Q P) (monoL 𝓤 P x) (comm∗ 𝓤 Q P))) })
 
 -- several `ensures` stand as facts under ∗
 abbrev pub Three : {M : Type 1} (𝓤 : URA M) → Adwin → Float → Verdict → Adwin → SProp 𝓤
@@ -48,4 +51,5 @@ module _ {M : Type 1} (𝓤 : URA M) (h : Adwin) (n : Float) (v : Verdict) (w : 
 
   pub three-in : {H : Heap 𝓤} {A : Atoms 𝓤} → Given 𝓤 H A → Claim h n v w → ent 𝓤 (emp 𝓤) (Three 𝓤 h n v w)
   three-in W c =
-      qed W [] {P = Three 𝓤 h n v w} (use0 W (raw (fact 𝓤 (Ignored h n w))) (factI 𝓤 _ (emp 𝓤) (c .1 .1)) $ use0 W (raw (fact 𝓤 (Refused h v w))) (factI 𝓤 _ (emp 𝓤) (c .1 .0)) $ use0 W (raw (fact 𝓤 (Said h n v w))) (factI 𝓤 _ (emp 𝓤) (c .0)) $ done !)
+      qed W [] {P = Three 𝓤 h n v w} (use0 W (raw (fact 𝓤 (Ignored h n w))) (factI 𝓤 _ (emp 𝓤) (c .1 .1)) $ use0 W (raw (fact 𝓤 (Refused h v w)))
+      (factI 𝓤 _ (emp 𝓤) (c .1 .0)) $ use0 W (raw (fact 𝓤 (Said h n v w))) (factI 𝓤 _ (emp 𝓤) (c .0)) $ done !)

@@ -40,6 +40,8 @@ module _ {ℓ} {A B : Type ℓ} (f : A → B) where
   map-retain p [] = refl
   map-retain p (x ∷ xs) = go (p (f x)) (map-retain p xs)
     where
-      go : (t : Bool) → map f (retain (λ (a : A). p (f a)) xs) ≡ retain p (map f xs) → map f (cond t (x ∷ retain (λ (a : A). p (f a)) xs) (retain (λ (a : A). p (f a)) xs)) ≡ cond t (f x ∷ retain p (map f xs)) (retain p (map f xs))
+      go :
+          (t : Bool) → map f (retain (λ (a : A). p (f a)) xs) ≡ retain p (map f xs) →
+          map f (cond t (x ∷ retain (λ (a : A). p (f a)) xs) (retain (λ (a : A). p (f a)) xs)) ≡ cond t (f x ∷ retain p (map f xs)) (retain p (map f xs))
       go true e = ap (λ (r : List B). f x ∷ r) e
       go false e = e

@@ -37,7 +37,8 @@ scanned r x ms n s measured nearest near few =
     rw (nearest, measured, near, count)
 
 -- n micro-clusters are counted and k held, of a point x that the scan f found
-module _ (f : Scan) (r lambda t : Float) (next : MicroId) (x : List Float) (n : ℕ) (ms : List DbMicro) (k : ℕ) (cut : k ≡ min n microsMost) (places : length ms ≡ microsMost) where
+module _ (f : Scan) (r lambda t : Float) (next : MicroId) (x : List Float) (n : ℕ) (ms : List DbMicro) (k : ℕ) (cut : k ≡ min n microsMost)
+    (places : length ms ≡ microsMost) where
   held : take k ms ≡ take n ms
   held = cut-take k n microsMost ms cut places
 

@@ -48,8 +48,12 @@ unfolding retain
 filter-end f p n i l r h = rw (rest-end n i l) (append-nil r)
 
 -- ---- a micro-cluster put together from its parts
-pub absorbs-is : (lambda t : Float) (x : List Float) (m : DbMicro) (cf : Spherical) → cf ≡ absorbing lambda t (m .last) x (m .cf) → record { cf = cf; last = t; id = m .id } ≡ absorbs lambda t x m
+pub absorbs-is :
+    (lambda t : Float) (x : List Float) (m : DbMicro) (cf : Spherical) → cf ≡ absorbing lambda t (m .last) x (m .cf) →
+    record { cf = cf; last = t; id = m .id } ≡ absorbs lambda t x m
 absorbs-is lambda t x m cf e = rw e
 
-pub newborn-is : (x : List Float) (t : Float) (id : MicroId) (cf : Spherical) → cf ≡ birth maxDim x → record { cf = cf; last = t; id = id } ≡ newborn maxDim id t x
+pub newborn-is :
+    (x : List Float) (t : Float) (id : MicroId) (cf : Spherical) → cf ≡ birth maxDim x →
+    record { cf = cf; last = t; id = id } ≡ newborn maxDim id t x
 newborn-is x t id cf e = rw e

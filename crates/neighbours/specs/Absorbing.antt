@@ -13,7 +13,8 @@ use Rattle.model.specs.declared.micro.DbMicro.{DbMicro}
 use Rattle.model.specs.Limits.{microsMost}
 use Rattle.neighbours.specs.Near.{absorbNear}
 
-module _ (r2 : Float) (f : DbMicro → DbMicro) (n i : ℕ) (ds : List Float) (ms : List DbMicro) (z : DbMicro) (h : i < n) (kd : n ≤ length ds) (km : n ≤ length ms) where
+module _ (r2 : Float) (f : DbMicro → DbMicro) (n i : ℕ) (ds : List Float) (ms : List DbMicro) (z : DbMicro) (h : i < n) (kd : n ≤ length ds)
+    (km : n ≤ length ms) where
   absorb-take :
       (v : DbMicro) → v ≡ f (getD ms i z) → le (getD ds i nan) r2 ≡ true →
       take (i + 1) (set ms i v) ++ absorbNear r2 f (rest n (i + 1) ds) (rest n (i + 1) (set ms i v)) ≡ take i ms ++ absorbNear r2 f (rest n i ds) (rest n i ms)
@@ -31,7 +32,9 @@ module _ (r2 : Float) (f : DbMicro → DbMicro) (n i : ℕ) (ds : List Float) (m
       let q : i < length ms = omega arith in
       rw (rest-step n i ds nan, rest-step n i ms z, t, add-one, take-suc ms i z, append-snoc (take i ms) (getD ms i z))
 
-absorb-end : (r2 : Float) (f : DbMicro → DbMicro) (n i : ℕ) (ds : List Float) (ms : List DbMicro) → n ≤ i → take i ms ++ absorbNear r2 f (rest n i ds) (rest n i ms) ≡ take i ms
+absorb-end :
+    (r2 : Float) (f : DbMicro → DbMicro) (n i : ℕ) (ds : List Float) (ms : List DbMicro) → n ≤ i →
+    take i ms ++ absorbNear r2 f (rest n i ds) (rest n i ms) ≡ take i ms
 unfolding absorbNear
 absorb-end r2 f n i ds ms h = rw (rest-end n i ds, rest-end n i ms) (append-nil (take i ms))
 
@@ -43,8 +46,12 @@ pub record Absorbing (r2 : Float) (f : DbMicro → DbMicro) (n : ℕ) (ds : List
   pub size : length ms ≡ microsMost
   pub left : take i ms ++ absorbNear r2 f (rest n i ds) (rest n i ms) ≡ absorbNear r2 f (take n ds) (take n ms₀)
 
-pub absorbing-starts : (r2 : Float) (f : DbMicro → DbMicro) (n : ℕ) (ds : List Float) (ms : List DbMicro) → n ≤ microsMost → length ds ≡ microsMost → length ms ≡ microsMost → Absorbing r2 f n ds ms ms 0
-absorbing-starts r2 f n ds ms h d m = record { high = omega arith; held = h; measured = d; size = m; left = ap₂ (absorbNear r2 f) (rest-start n ds) (rest-start n ms) }
+pub absorbing-starts :
+    (r2 : Float) (f : DbMicro → DbMicro) (n : ℕ) (ds : List Float) (ms : List DbMicro) → n ≤ microsMost → length ds ≡ microsMost →
+    length ms ≡ microsMost →
+    Absorbing r2 f n ds ms ms 0
+absorbing-starts r2 f n ds ms h d m =
+    record { high = omega arith; held = h; measured = d; size = m; left = ap₂ (absorbNear r2 f) (rest-start n ds) (rest-start n ms) }
 
 module _ {r2 : Float} {f : DbMicro → DbMicro} {n : ℕ} {ds : List Float} {ms₀ ms : List DbMicro} {i : ℕ} (a : Absorbing r2 f n ds ms₀ ms i) where
   pub absorbing-takes : (z v : DbMicro) → i < n → v ≡ f (getD ms i z) → le (getD ds i nan) r2 ≡ true → Absorbing r2 f n ds ms₀ (set ms i v) (i + 1)
@@ -64,7 +71,8 @@ module _ {r2 : Float} {f : DbMicro → DbMicro} {n : ℕ} {ds : List Float} {ms�
         held = a .held;
         measured = a .measured;
         size = a .size;
-        left = absorb-skip r2 f n i ds ms (any-of ms (omega (arith, h, a .held, a .size))) h (omega (arith, a .held, a .measured)) (omega (arith, a .held, a .size)) t ∙ a .left;
+        left = absorb-skip r2 f n i ds ms (any-of ms (omega (arith, h, a .held, a .size))) h (omega (arith, a .held, a .measured))
+            (omega (arith, a .held, a .size)) t ∙ a .left;
       }
 
   pub absorbing-ends : n ≤ i → take n ms ≡ absorbNear r2 f (take n ds) (take n ms₀)

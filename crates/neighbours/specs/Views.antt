@@ -22,7 +22,9 @@ use Rattle.neighbours.specs.Near.{distancesTo, absorbNear}
 abbrev pub isNear : (r : Float) (x : List Float) (d : ℕ) → DbMicro → Bool
 isNear r x d m = isNeighbour r x (cutTo d m)
 
-pub neighbours-view : (r : Float) (x : List Float) (d : ℕ) (l : List DbMicro) → map idOf (retain (isNear r x d) l) ≡ map idOf (retain (isNeighbour r x) (map (cutTo d) l))
+pub neighbours-view :
+    (r : Float) (x : List Float) (d : ℕ) (l : List DbMicro) →
+    map idOf (retain (isNear r x d) l) ≡ map idOf (retain (isNeighbour r x) (map (cutTo d) l))
 neighbours-view r x d l = sym (map-map idOf (cutTo d) (retain (isNear r x d) l)) ∙ ap (map idOf) (map-retain (cutTo d) (isNeighbour r x) l)
 
 -- ---- a point of as many coordinates

@@ -70,9 +70,16 @@ module _ (d : ℕ) (potential : List Micro) (potentialCount : ℕ) (outliers : L
       pub outlier-low : target ≡ Outlier → length outliers ≡ 64 → place < 64
       outlier-low e h =
           let q : place < length (s .outliers) = subst Needs e r in
-          omega (arith, q, length-map (take (outliersHeld potentialCount outlierCount) outliers) (microIn d), length-take (outliersHeld potentialCount outlierCount) outliers)
+          omega (
+            arith,
+            q,
+            length-map (take (outliersHeld potentialCount outlierCount) outliers) (microIn d),
+            length-take
+                (outliersHeld potentialCount outlierCount) outliers,
+          )
 
-  module _ (lp : length potential ≡ 64) (lo : length outliers ≡ 64) (np : ℕ) (ep : np ≡ potentialHeld potentialCount) (ko : ℕ) (eo : ko ≡ outliersHeld potentialCount outlierCount) where
+  module _ (lp : length potential ≡ 64) (lo : length outliers ≡ 64) (np : ℕ) (ep : np ≡ potentialHeld potentialCount) (ko : ℕ)
+      (eo : ko ≡ outliersHeld potentialCount outlierCount) where
     p-size : length (take np potential) ≡ np
     p-size = omega (arith, length-take np potential)
 
@@ -121,7 +128,8 @@ module _ (d : ℕ) (potential : List Micro) (potentialCount : ℕ) (outliers : L
       pub comes : target ≡ Newborn → poolsOf d potential potentialCount (set outliers ko m) (ko + 1) ≡ pooledAt target place (microIn d m) s
       comes e =
           ap (pooled (s .potential))
-          (seen-more d ko (outliersHeld potentialCount (ko + 1)) outliers m (omega (arith, newborn-low e)) (omega (arith, newborn-low e)) ∙ ap (λ (l : List Micro). l ++ microIn d m ∷ []) o-seen)
+          (seen-more d ko (outliersHeld potentialCount (ko + 1)) outliers m (omega (arith, newborn-low e)) (omega (arith, newborn-low e))
+          ∙ ap (λ (l : List Micro). l ++ microIn d m ∷ []) o-seen)
           ∙ ap (λ (u : Target). pooledAt u place (microIn d m) s) (sym e)
 
     -- a pruning of both pools

@@ -48,6 +48,7 @@ without-out {A} (suc i) (x ∷ xs) h = ap (λ (r : List A). x ∷ r) (without-ou
 
 -- ---- nothing to remove
 pub without-none :
-    {A : Type 0} (n k : ℕ) (l : List A) → k ≡ min n 64 → length l ≡ 64 → (place : ℕ) → k ≤ place → (take k l ≡ without place (take n l)) × (k ≡ length (take k l))
+    {A : Type 0} (n k : ℕ) (l : List A) → k ≡ min n 64 → length l
+    ≡ 64 → (place : ℕ) → k ≤ place → (take k l ≡ without place (take n l)) × (k ≡ length (take k l))
 without-none n k l e h place t =
     (cut-take k n 64 l e h ∙ sym (without-out place (take n l) (omega (arith, length-take n l))), sym (length-take-le k l (omega arith)))

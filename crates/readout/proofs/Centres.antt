@@ -62,7 +62,8 @@ centres-length : (w : ℕ) (l : List Spherical) → Wide w l → length (centres
 unfolding centresOf
 centres-length w [] h = omega arith
 centres-length w (cf ∷ l) h =
-    length-append (cf .mean) (centresOf l) ∙ ap₂ (λ (a b : ℕ). a + b) (h .0) (centres-length w l (h .1)) ∙ add-comm w (length l * w) ∙ sym (suc-mul (length l) w)
+    length-append (cf .mean) (centresOf l) ∙ ap₂ (λ (a b : ℕ). a + b) (h .0) (centres-length w l (h .1)) ∙ add-comm w (length l * w)
+    ∙ sym (suc-mul (length l) w)
 
 centres-at : (w : ℕ) (l : List Spherical) → Wide w l → (i : ℕ) (z : Spherical) → i < length l → take w (drop (i * w) (centresOf l)) ≡ getD l i z .mean
 unfolding centresOf
@@ -141,13 +142,15 @@ module _ {w n : ℕ} {l : List Spherical} {lent out : List Float} {i : ℕ} (t :
     mean-fits z =
         let a : length (take w (getD l i z .mean)) ≡ w = mean-count z in
         let q : i * w + w ≤ length out = turn-room in
-        let b : length (midOf (i * w) (length out - i * w) out) ≡ length out - i * w = length-take-le (length out - i * w) (drop (i * w) out) (omega (arith, length-drop (i * w) out)) in
+        let b : length (midOf (i * w) (length out - i * w) out) ≡ length out - i * w =
+        length-take-le (length out - i * w) (drop (i * w) out) (omega (arith, length-drop (i * w) out)) in
         omega arith
 
     pub turn-step :
         (z : Spherical) (part : List Float) → part ≡ written (take w (getD l i z .mean)) (midOf (i * w) (length out - i * w) out) →
         putMid (i * w) (length out - i * w) out part ≡ partly (centresDue w n l) lent ((i + 1) * w)
     turn-step z part ep =
-        block-step (centresDue w n l) lent out (i * w) w (t .done) (subst (λ (m : ℕ). i * w + w ≤ m) (sym count) (block-room i n w (n * w) k (le-refl (n * w)))) (take w (getD l i z .mean)) part
+        block-step (centresDue w n l) lent out (i * w) w (t .done)
+        (subst (λ (m : ℕ). i * w + w ≤ m) (sym count) (block-room i n w (n * w) k (le-refl (n * w)))) (take w (getD l i z .mean)) part
         (due-at w n l (t .wide) (t .low) (t .long) i z k) ep
         ∙ ap (partly (centresDue w n l) lent) (next-block i w)

@@ -41,7 +41,8 @@ module _ {A : Type 0} (due lent out : List A) (n : ℕ) (count : length due ≡ 
       e ∙ ap (λ (k : ℕ). take k due ++ drop k lent) (h ∙ sym count) ∙ ap (λ (t : List A). t ++ drop (length due) lent) (take-length due)
 
 -- the next w of those due, written as one block into what lies from at on
-module _ {A : Type 0} (due lent out : List A) (at w : ℕ) (e : out ≡ partly due lent at) (h : at + w ≤ length due) (block part : List A) (eb : block ≡ take w (drop at due)) where
+module _ {A : Type 0} (due lent out : List A) (at w : ℕ) (e : out ≡ partly due lent at) (h : at + w ≤ length due) (block part : List A)
+    (eb : block ≡ take w (drop at due)) where
   front : length (take at due) ≡ at
   front = length-take-le at due (omega arith)
 

@@ -31,7 +31,9 @@ pub record Counted (ds : List Float) (n end : ℕ) (labels : List ℤ) (k count 
   pub labels-long : length labels ≡ microsMost
 
 module _ (radius2 : Float) {ds : List Float} {n end : ℕ} {labels : List ℤ} {k count : ℕ} (q : Counted ds n end labels k count) where
-  label-by : (t : Bool) → eqb count end ≡ t → labelAmong radius2 (take n ds) (take k labels) ≡ cond t (labelFound radius2 (take k labels) (nearestAmong (take n ds))) (negsuc 0)
+  label-by :
+      (t : Bool) → eqb count end ≡ t →
+      labelAmong radius2 (take n ds) (take k labels) ≡ cond t (labelFound radius2 (take k labels) (nearestAmong (take n ds))) (negsuc 0)
   unfolding labelAmong
   label-by t e =
       ap (λ (b : Bool). cond b (labelFound radius2 (take k labels) (nearestAmong (take n ds))) (negsuc 0))
@@ -50,7 +52,9 @@ module _ (radius2 : Float) {ds : List Float} {n end : ℕ} {labels : List ℤ} {
           let p : place < length (take n ds) = nearest-low (take n ds) place dist (sym eo ∙ e) in
           omega (arith, length-take n ds, q .end-is, q .ds-long)
 
-      label-tested : (t : Bool) → le dist radius2 ≡ t → cond t (getD (take k labels) place (negsuc 0)) (negsuc 0) ≡ labelAmong radius2 (take n ds) (take k labels)
+      label-tested :
+          (t : Bool) → le dist radius2 ≡ t →
+          cond t (getD (take k labels) place (negsuc 0)) (negsuc 0) ≡ labelAmong radius2 (take n ds) (take k labels)
       label-tested t et = sym (ap (λ (b : Bool). cond b (getD (take k labels) place (negsuc 0)) (negsuc 0)) et) ∙ label-found (At place dist) e
 
       pub label-far : le dist radius2 ≡ false → negsuc 0 ≡ labelAmong radius2 (take n ds) (take k labels)

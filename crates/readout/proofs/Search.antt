@@ -29,14 +29,16 @@ module _ (n : ℕ) (l : List Float) (k : n ≤ length l) where
   module _ (place : ℕ) (dist : Float) (i : ℕ) where
     turned :
         (t : Bool) → lt (getD l i nan) dist ≡ t → i < n →
-        foundOf (some (nearestFrom (λ (d : Float). d) (cond t (nearAt (λ (d : Float). d) i (getD l i nan)) (nearAt (λ (d : Float). d) place dist)) (i + 1) (rest n (i + 1) l)))
+        foundOf (some (nearestFrom (λ (d : Float). d) (cond t (nearAt (λ (d : Float). d) i (getD l i nan)) (nearAt (λ (d : Float). d) place dist))
+        (i + 1) (rest n (i + 1) l)))
         ≡ foundFrom place dist i (rest n i l)
     unfolding foundFrom nearestFrom
     turned t e h =
         sym
         (ap (foundFrom place dist i) (rest-step n i l nan h k)
         ∙ ap
-        (λ (b : Bool). foundOf (some (nearestFrom (λ (d : Float). d) (cond b (nearAt (λ (d : Float). d) i (getD l i nan)) (nearAt (λ (d : Float). d) place dist)) (i + 1) (rest n (i + 1) l))))
+        (λ (b : Bool). foundOf (some (nearestFrom (λ (d : Float). d)
+        (cond b (nearAt (λ (d : Float). d) i (getD l i nan)) (nearAt (λ (d : Float). d) place dist)) (i + 1) (rest n (i + 1) l))))
         e)
 
     -- a turn that takes the one at i, one that keeps what it had, and the end

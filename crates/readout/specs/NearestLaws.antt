@@ -51,7 +51,8 @@ module _ {A : Type 0} (distance : A → Float) where
   nearer-stands false best new l h k = h
 
   from-stands :
-      (best : Near A) (i : ℕ) (ms l : List A) → StandsIn l best → i + length ms ≡ length l → ((q : ℕ) → q < length ms → (z : A) → getD l (i + q) z ≡ getD ms q z) →
+      (best : Near A) (i : ℕ) (ms l : List A) → StandsIn l best → i + length ms
+      ≡ length l → ((q : ℕ) → q < length ms → (z : A) → getD l (i + q) z ≡ getD ms q z) →
       StandsIn l (nearestFrom distance best i ms)
   unfolding nearestFrom
   from-stands best i [] l h e f = h
@@ -70,7 +71,8 @@ module _ {A : Type 0} (distance : A → Float) where
   nearest-stands [] b e = let z : _≡_ {A = ℕ} 0 1 = cc in absurd (omega arith)
   nearest-stands (m ∷ ms) b e =
       subst (StandsIn (m ∷ ms)) (some-is e)
-      (from-stands (nearAt distance 0 m) 1 ms (m ∷ ms) (omega arith, λ z. refl) (omega arith) (λ q hq z. ap (λ (k : ℕ). getD (m ∷ ms) k z) (let u : 1 + q ≡ suc q = omega arith in u)))
+      (from-stands (nearAt distance 0 m) 1 ms (m ∷ ms) (omega arith, λ z. refl) (omega arith)
+      (λ q hq z. ap (λ (k : ℕ). getD (m ∷ ms) k z) (let u : 1 + q ≡ suc q = omega arith in u)))
 
   found-some : (o : Option (Near A)) (p : ℕ) (d : Float) → foundOf o ≡ At p d → (m : A) × (o ≡ some (record { place = p; micro = m; dist = d }))
   found-some none p d e = let z : _≡_ {A = ℕ} 0 1 = cc in absurd (omega arith)

@@ -1,7 +1,8 @@
 -- The digit loop on plain numbers: what a round keeps. Assumes nothing.
 use mathlib.Core.Path.{_≡_, sym, ap, _∙_, subst}
 use Prim.Native.Nat.{ℕ, suc, _+_, _-_, _*_, _/_, _%_, _^_, _≤_, _<_}
-use native.Mathlib.Nat.{le-trans, le-of-eq, lt-of-lt-of-le, lt-of-le-of-lt, lt-of-not-le, lt-irrefl, mul-assoc, mul-comm, mul-right-comm, mul-le-mul, mul-le-mul-left, mul-le-mul-right, pow-suc, pow-le-pow-right, zero-lt-suc}
+use native.Mathlib.Nat.{le-trans, le-of-eq, lt-of-lt-of-le, lt-of-le-of-lt, lt-of-not-le, lt-irrefl, mul-assoc, mul-comm, mul-right-comm, mul-le-mul}
+use native.Mathlib.Nat.{mul-le-mul-left, mul-le-mul-right, pow-suc, pow-le-pow-right, zero-lt-suc}
 use native.Mathlib.Numerals.{add-one}
 use native.Mathlib.Omega.{arith}
 use lib.Pow.{pow-add, pow-mono}
@@ -97,4 +98,6 @@ done {m} {w} {q} {rem} {i} p h =
     apart g = ap (λ (x : ℕ). 4 ^ x) (omega arith) ∙ pow-add 4 (i - 27) 27
 
     scale : 54 ≤ i → m * 1024 * 4 ^ i ≡ m * 4 ^ (i - 27) * 2 ^ 64
-    scale g = rw (apart g) (sym (mul-assoc (m * 1024) (4 ^ (i - 27)) (4 ^ 27)) ∙ ap (λ (x : ℕ). x * 4 ^ 27) (mul-right-comm m 1024 (4 ^ (i - 27))) ∙ mul-assoc (m * 4 ^ (i - 27)) 1024 (4 ^ 27))
+    scale g =
+        rw (apart g) (sym (mul-assoc (m * 1024) (4 ^ (i - 27)) (4 ^ 27)) ∙ ap (λ (x : ℕ). x * 4 ^ 27) (mul-right-comm m 1024 (4 ^ (i - 27)))
+        ∙ mul-assoc (m * 4 ^ (i - 27)) 1024 (4 ^ 27))

@@ -1,7 +1,8 @@
 -- `floorRoot n` is the whole part of n's root, and `sticky n` twice that with a digit that says whether something was cut off. Assumes nothing.
 use mathlib.Core.Path.{_≡_}
 use Prim.Native.Nat.{ℕ, zero, suc, _+_, _*_, _/_, _^_, _≤_, _<_}
-use native.Mathlib.Nat.{le-trans, lt-of-lt-of-le, lt-of-not-le, lt-irrefl, le-of-suc-le-suc, mul-comm, mul-left-comm, mul-suc, suc-mul, mul-le-mul, pow-suc, pow-le-pow-left}
+use native.Mathlib.Nat.{le-trans, lt-of-lt-of-le, lt-of-not-le, lt-irrefl, le-of-suc-le-suc, mul-comm, mul-left-comm, mul-suc, suc-mul, mul-le-mul}
+use native.Mathlib.Nat.{pow-suc, pow-le-pow-left}
 use native.Mathlib.Omega.{arith}
 use mathlib.Core.Bool.{Bool, true, false, not, cond}
 use lib.Dec.{T, leb, eqb, leb→le, nleb→lt, eqb→eq}

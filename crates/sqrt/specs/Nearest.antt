@@ -110,4 +110,6 @@ module _ (m k q i : ℕ) (low-k : k ≤ 2097) (d : Rooted (m * (1 + k % 2)) q i)
   rounded-value = units-value ((q + 1) / 2) field (omega (arith, d .high)) (omega (arith, d .least))
 
   pub rounded-no-nan : T (not (nanBits binary64 (field * 2 ^ 52 + (q + 1) / 2)))
-  rounded-no-nan = rw (nanBits-is binary64 (field * 2 ^ 52 + (q + 1) / 2), rounded-bits, rounded-is) (no-nan (units binary64 false ((q + 1) / 2) field) ((q + 1) / 2 * 2 ^ field) rounded-value)
+  rounded-no-nan =
+      rw (nanBits-is binary64 (field * 2 ^ 52 + (q + 1) / 2), rounded-bits, rounded-is)
+      (no-nan (units binary64 false ((q + 1) / 2) field) ((q + 1) / 2 * 2 ^ field) rounded-value)

@@ -2,7 +2,9 @@
 use mathlib.Core.Path.{_≡_, refl, sym, ap, _∙_}
 use mathlib.Core.Logic.{inl, inr}
 use Prim.Native.Nat.{ℕ, zero, suc, _+_, _-_, _*_, _/_, _%_, _^_, _≤_, _<_, compare, Ordering, Ordering·lt, Ordering·eq, Ordering·gt}
-use native.Mathlib.Nat.{le-trans, le-of-eq, le-antisymm, lt-of-lt-of-le, lt-of-le-of-lt, lt-of-not-le, lt-irrefl, zero-add, mul-comm, mul-left-comm, mul-assoc, mul-mul-mul-comm, suc-mul, mul-pos, mul-le-mul-right, mul-lt-mul-of-pos-right, mul-div-cancel, eq-of-mul-eq-mul-right, eq-or-lt-of-le, pow-suc}
+use native.Mathlib.Nat.{le-trans, le-of-eq, le-antisymm, lt-of-lt-of-le, lt-of-le-of-lt, lt-of-not-le, lt-irrefl, zero-add, mul-comm, mul-left-comm}
+use native.Mathlib.Nat.{mul-assoc, mul-mul-mul-comm, suc-mul, mul-pos, mul-le-mul-right, mul-lt-mul-of-pos-right, mul-div-cancel}
+use native.Mathlib.Nat.{eq-of-mul-eq-mul-right, eq-or-lt-of-le, pow-suc}
 use native.Mathlib.Omega.{arith}
 use mathlib.Core.Bool.{true, false, not, true≢false}
 use lib.Arith.{digits-div, digits-mod}
@@ -111,8 +113,12 @@ pub step-of : (n a p q t : ℕ) → 0 < p → n ≡ a * (p * p) → IsRoot a q �
 step-of n a p q t P e r s =
     let Q = s .q in
     let pp : 0 < p * p = mul-pos P P in
-    let lo : q * p < suc Q = below-of-squares n (q * p) (suc Q) (le-trans (le-of-eq (mul-mul-mul-comm q p q p)) (le-trans (mul-le-mul-right (p * p) (r .0)) (le-of-eq (sym e)))) (s .is-root .1) in
-    let hi : Q < suc q * p = below-of-squares n Q (suc q * p) (s .is-root .0) (lt-of-le-of-lt (le-of-eq e) (lt-of-lt-of-le (mul-lt-mul-of-pos-right (r .1) pp) (le-of-eq (sym (mul-mul-mul-comm (suc q) p (suc q) p))))) in
+    let lo : q * p < suc Q =
+    below-of-squares n (q * p) (suc Q) (le-trans (le-of-eq (mul-mul-mul-comm q p q p))
+    (le-trans (mul-le-mul-right (p * p) (r .0)) (le-of-eq (sym e)))) (s .is-root .1) in
+    let hi : Q < suc q * p =
+    below-of-squares n Q (suc q * p) (s .is-root .0)
+    (lt-of-le-of-lt (le-of-eq e) (lt-of-lt-of-le (mul-lt-mul-of-pos-right (r .1) pp) (le-of-eq (sym (mul-mul-mul-comm (suc q) p (suc q) p))))) in
     let x : q * (2 * p) ≡ 2 * (q * p) = mul-left-comm q 2 p in
     let y : suc q * (2 * p) ≡ 2 * (suc q * p) = mul-left-comm (suc q) 2 p in
     record {
@@ -137,17 +143,24 @@ unit-is t p =
     ∙ ap (λ (x : ℕ). t * x) (sym (mul-left-comm (2 ^ 593) p (2 ^ 483)))
 
 scaled-low : (c : ℕ) → 2 ^ 53 * (2 * 2 ^ c) * 2 ^ 481 ≡ 2 ^ (c + 535)
-scaled-low c = ap (λ (x : ℕ). x * 2 ^ 481) (sym (mul-assoc (2 ^ 53) 2 (2 ^ c)) ∙ mul-comm (2 ^ 54) (2 ^ c)) ∙ mul-assoc (2 ^ c) (2 ^ 54) (2 ^ 481) ∙ sym (pow-add 2 c 535)
+scaled-low c =
+    ap (λ (x : ℕ). x * 2 ^ 481) (sym (mul-assoc (2 ^ 53) 2 (2 ^ c)) ∙ mul-comm (2 ^ 54) (2 ^ c)) ∙ mul-assoc (2 ^ c) (2 ^ 54) (2 ^ 481) ∙ sym (pow-add 2 c 535)
 
 scaled-high : (c : ℕ) → 2 ^ 54 * (2 * 2 ^ c) * 2 ^ 481 ≡ 2 ^ (c + 536)
-scaled-high c = ap (λ (x : ℕ). x * 2 ^ 481) (sym (mul-assoc (2 ^ 54) 2 (2 ^ c)) ∙ mul-comm (2 ^ 55) (2 ^ c)) ∙ mul-assoc (2 ^ c) (2 ^ 55) (2 ^ 481) ∙ sym (pow-add 2 c 536)
+scaled-high c =
+    ap (λ (x : ℕ). x * 2 ^ 481) (sym (mul-assoc (2 ^ 54) 2 (2 ^ c)) ∙ mul-comm (2 ^ 55) (2 ^ c)) ∙ mul-assoc (2 ^ c) (2 ^ 55) (2 ^ 481) ∙ sym (pow-add 2 c 536)
 
-pub rounds-to : (a c q t : ℕ) → Step a (2 ^ c) q t → (q * q ≡ a → q % 2 ≡ 0) → 2 ^ 53 ≤ q → q < 2 ^ 54 → round binary64 false t (2 ^ 593) ≡ units binary64 false ((q + 1) / 2) (c + 483)
+pub rounds-to :
+    (a c q t : ℕ) → Step a (2 ^ c) q t → (q * q ≡ a → q % 2 ≡ 0) → 2 ^ 53 ≤ q → q < 2 ^ 54 →
+    round binary64 false t (2 ^ 593) ≡ units binary64 false ((q + 1) / 2) (c + 483)
 rounds-to a c q t s tie lo hi =
     let p = 2 ^ c in
-    let cut : t * 2 ^ 1074 / 2 ^ 593 ≡ t * 2 ^ 481 = ap (λ (x : ℕ). x / 2 ^ 593) (sym (mul-assoc t (2 ^ 481) (2 ^ 593))) ∙ mul-div-cancel (t * 2 ^ 481) (pow-pos 593) in
-    let low : 2 ^ (c + 535) ≤ t * 2 ^ 481 = le-trans (le-of-eq (sym (scaled-low c))) (mul-le-mul-right (2 ^ 481) (le-trans (mul-le-mul-right (2 * p) lo) (s .from))) in
-    let high : t * 2 ^ 481 < 2 ^ (c + 536) = lt-of-lt-of-le (mul-lt-mul-of-pos-right (lt-of-lt-of-le (s .to) (mul-le-mul-right (2 * p) hi)) (pow-pos 481)) (le-of-eq (scaled-high c)) in
+    let cut : t * 2 ^ 1074 / 2 ^ 593 ≡ t * 2 ^ 481 =
+    ap (λ (x : ℕ). x / 2 ^ 593) (sym (mul-assoc t (2 ^ 481) (2 ^ 593))) ∙ mul-div-cancel (t * 2 ^ 481) (pow-pos 593) in
+    let low : 2 ^ (c + 535) ≤ t * 2 ^ 481 =
+    le-trans (le-of-eq (sym (scaled-low c))) (mul-le-mul-right (2 ^ 481) (le-trans (mul-le-mul-right (2 * p) lo) (s .from))) in
+    let high : t * 2 ^ 481 < 2 ^ (c + 536) =
+    lt-of-lt-of-le (mul-lt-mul-of-pos-right (lt-of-lt-of-le (s .to) (mul-le-mul-right (2 * p) hi)) (pow-pos 481)) (le-of-eq (scaled-high c)) in
     let digits : size (t * 2 ^ 481) ≡ suc (c + 535) = size-is (c + 535) (t * 2 ^ 481) low (lt-of-lt-of-le high (le-of-eq (ap (λ (x : ℕ). 2 ^ x) (shift c)))) in
     let k : size (t * 2 ^ 1074 / 2 ^ 593) - 53 ≡ c + 483 = ap (λ (x : ℕ). size x - 53) cut ∙ ap (λ (x : ℕ). x - 53) digits ∙ dropped c in
     round-is binary64 false t (2 ^ 593)
@@ -180,13 +193,19 @@ bits-of-value (fin false m e) a h =
 bits-of : (r g : ℕ) → 2 ^ 52 ≤ r → r ≤ 2 ^ 53 → (size (r * 2 ^ g) - 53) * 2 ^ 52 + r * 2 ^ g / 2 ^ (size (r * 2 ^ g) - 53) ≡ g * 2 ^ 52 + r
 bits-of r g lo hi = elim (eq-or-lt-of-le hi) [
   | inl e ↦
-      let z : size (r * 2 ^ g) ≡ suc (g + 53) = ap (λ (x : ℕ). size (x * 2 ^ g)) e ∙ size-is (g + 53) (2 ^ 53 * 2 ^ g) (le-of-eq (pow-add 2 g 53 ∙ mul-comm (2 ^ g) (2 ^ 53))) (lt-of-lt-of-le (shl-lt 54 g (omega arith)) (le-of-eq (ap (λ (x : ℕ). 2 ^ x) (above g)))) in
+      let z : size (r * 2 ^ g) ≡ suc (g + 53) =
+      ap (λ (x : ℕ). size (x * 2 ^ g)) e ∙ size-is (g + 53) (2 ^ 53 * 2 ^ g) (le-of-eq (pow-add 2 g 53 ∙ mul-comm (2 ^ g) (2 ^ 53)))
+      (lt-of-lt-of-le (shl-lt 54 g (omega arith)) (le-of-eq (ap (λ (x : ℕ). 2 ^ x) (above g)))) in
       ap (λ (x : ℕ). (x - 53) * 2 ^ 52 + r * 2 ^ g / 2 ^ (x - 53)) z
       ∙ ap (λ (x : ℕ). x * 2 ^ 52 + r * 2 ^ g / 2 ^ x) (one g)
-      ∙ ap (λ (x : ℕ). suc g * 2 ^ 52 + x) (ap (λ (x : ℕ). x / 2 ^ suc g) (ap (λ (x : ℕ). x * 2 ^ g) e ∙ mul-assoc (2 ^ 52) 2 (2 ^ g) ∙ ap (λ (x : ℕ). 2 ^ 52 * x) (mul-comm 2 (2 ^ g) ∙ sym (pow-suc 2 g))) ∙ mul-div-cancel (2 ^ 52) (pow-pos (suc g)))
+      ∙ ap (λ (x : ℕ). suc g * 2 ^ 52 + x) (ap (λ (x : ℕ). x / 2 ^ suc g)
+      (ap (λ (x : ℕ). x * 2 ^ g) e ∙ mul-assoc (2 ^ 52) 2 (2 ^ g) ∙ ap (λ (x : ℕ). 2 ^ 52 * x) (mul-comm 2 (2 ^ g) ∙ sym (pow-suc 2 g)))
+      ∙ mul-div-cancel (2 ^ 52) (pow-pos (suc g)))
       ∙ carry g r e
   | inr l ↦
-      let z : size (r * 2 ^ g) ≡ suc (g + 52) = size-is (g + 52) (r * 2 ^ g) (le-trans (le-of-eq (pow-add 2 g 52 ∙ mul-comm (2 ^ g) (2 ^ 52))) (mul-le-mul-right (2 ^ g) lo)) (lt-of-lt-of-le (shl-lt 53 g l) (le-of-eq (ap (λ (x : ℕ). 2 ^ x) (above′ g)))) in
+      let z : size (r * 2 ^ g) ≡ suc (g + 52) =
+      size-is (g + 52) (r * 2 ^ g) (le-trans (le-of-eq (pow-add 2 g 52 ∙ mul-comm (2 ^ g) (2 ^ 52))) (mul-le-mul-right (2 ^ g) lo))
+      (lt-of-lt-of-le (shl-lt 53 g l) (le-of-eq (ap (λ (x : ℕ). 2 ^ x) (above′ g)))) in
       ap (λ (x : ℕ). (x - 53) * 2 ^ 52 + r * 2 ^ g / 2 ^ (x - 53)) z
       ∙ ap (λ (x : ℕ). x * 2 ^ 52 + r * 2 ^ g / 2 ^ x) (none g)
       ∙ ap (λ (x : ℕ). g * 2 ^ 52 + x) (mul-div-cancel r (pow-pos g))
@@ -213,6 +232,9 @@ units-value r g hi G = units-val binary64 false r g (lt-of-lt-of-le (shl-lt 54 g
     room : (g : ℕ) → g ≤ 2044 → 54 + g ≤ 2098
     room g h = omega arith
 
-pub bits-are : (r g : ℕ) → 2 ^ 52 ≤ r → r ≤ 2 ^ 53 → g ≤ 2044 → T (fits binary64 (units binary64 false r g)) → ofBits binary64 (g * 2 ^ 52 + r) ≡ units binary64 false r g
+pub bits-are :
+    (r g : ℕ) → 2 ^ 52 ≤ r → r ≤ 2 ^ 53 → g ≤ 2044 → T (fits binary64 (units binary64 false r g)) →
+    ofBits binary64 (g * 2 ^ 52 + r) ≡ units binary64 false r g
 bits-are r g lo hi G fit =
-    ap (ofBits binary64) (sym (bits-of-value (units binary64 false r g) (r * 2 ^ g) (units-value r g hi G) ∙ bits-of r g lo hi)) ∙ ofBits-toBits binary64 (units binary64 false r g) fit
+    ap (ofBits binary64) (sym (bits-of-value (units binary64 false r g) (r * 2 ^ g) (units-value r g hi G) ∙ bits-of r g lo hi))
+    ∙ ofBits-toBits binary64 (units binary64 false r g) fit

@@ -1,7 +1,9 @@
 -- `sqrtOf` in plain arithmetic: for x = m * 2 ^ (k - 1074), a positive number of binary64, its result is the number of 53 binary digits that is nearest to x's root. Assumes nothing.
 use mathlib.Core.Path.{_≡_, refl, sym, ap, _∙_, subst}
 use Prim.Native.Nat.{ℕ, suc, _+_, _-_, _*_, _/_, _%_, _^_, _≤_, _<_}
-use native.Mathlib.Nat.{le-trans, le-of-eq, lt-of-lt-of-le, lt-of-le-of-lt, lt-of-not-le, le-of-suc-le-suc, mul-comm, mul-left-comm, mul-assoc, mul-one, mul-suc, suc-mul, mul-pos, mul-le-mul, mul-le-mul-right, mul-lt-mul-of-pos-right, zero-lt-suc, eq-or-lt-of-le, lt-irrefl}
+use native.Mathlib.Nat.{le-trans, le-of-eq, lt-of-lt-of-le, lt-of-le-of-lt, lt-of-not-le, le-of-suc-le-suc, mul-comm, mul-left-comm, mul-assoc}
+use native.Mathlib.Nat.{mul-one, mul-suc, suc-mul, mul-pos, mul-le-mul, mul-le-mul-right, mul-lt-mul-of-pos-right, zero-lt-suc, eq-or-lt-of-le}
+use native.Mathlib.Nat.{lt-irrefl}
 use mathlib.Core.Logic.{inl, inr}
 use native.Mathlib.Omega.{arith}
 use mathlib.Core.Bool.{false, _&&_}
@@ -50,7 +52,8 @@ module _ (m : ℕ) (some : 0 < m) (few : m < 2 ^ 54) where
       let j = rounds - 27 in
       let lead : 2 ^ (s - 1) ≤ m = size-reaches m (s - 1) (omega (arith, one-digit)) in
       let four : m * 4 ^ j ≡ m * 2 ^ (j + j) = ap (λ (x : ℕ). m * x) (pow-four j ∙ sym (pow-add 2 j j)) in (
-        le-trans (pow-mono {i = 106} {j = s - 1 + (j + j)} (omega (arith, one-digit))) (le-trans (le-of-eq (pow-add 2 (s - 1) (j + j))) (le-trans (mul-le-mul-right (2 ^ (j + j)) lead) (le-of-eq (sym four)))),
+        le-trans (pow-mono {i = 106} {j = s - 1 + (j + j)} (omega (arith, one-digit)))
+            (le-trans (le-of-eq (pow-add 2 (s - 1) (j + j))) (le-trans (mul-le-mul-right (2 ^ (j + j)) lead) (le-of-eq (sym four)))),
         lt-of-le-of-lt (le-of-eq four) (lt-of-lt-of-le (shl-lt s (j + j) (size-lt m)) (pow-mono {i = s + (j + j)} {j = 108} (omega arith))),
       )
 
@@ -73,7 +76,8 @@ pub sqrt-nearest : (x : Float) (m k : ℕ) → 0 < m → m < 2 ^ 53 → k ≤ 20
 sqrt-nearest x m k some few low v = record {
   r = R;
   g = G;
-  value = subst (λ (y : Float). HasValue y false (R * 2 ^ G) (2 ^ 1074)) (sym (sqrt-of-value x n v (mul-pos some (pow-pos k)) ∙ rounded-is m k q i low d)) (rounded-value m k q i low d);
+  value = subst (λ (y : Float). HasValue y false (R * 2 ^ G) (2 ^ 1074))
+      (sym (sqrt-of-value x n v (mul-pos some (pow-pos k)) ∙ rounded-is m k q i low d)) (rounded-value m k q i low d);
   place-low = le-trans (mul-le-mul-right (4 ^ G) (le-trans (mul-le-mul (d .low) (d .low)) (d .is-root .0))) (le-of-eq (sym scales));
   place-high = lt-of-le-of-lt (le-of-eq scales) (mul-lt-mul-of-pos-right (lt-of-lt-of-le (d .is-root .1) (mul-le-mul (d .high) (d .high))) pow-four-pos);
   above = lt-of-lt-of-le (mul-lt-mul-of-pos-right lower pow-four-pos) (le-of-eq (sym scales));
@@ -151,14 +155,20 @@ pow-lt-back i j h = lt-of-not-le (λ (g : j ≤ i). lt-irrefl (2 ^ i) (lt-of-lt-
 
 -- e is k - 1074 for a k up to 2097
 place : (m : ℕ) (e : ℤ) → down e ≤ 2 ^ 1074 → suc m * up e < 2 ^ 1024 * down e → (k : ℕ) × (k ≤ 2097) × (suc m * up e * 2 ^ 1074 ≡ suc m * 2 ^ k * down e)
-place m (pos x) lo hi = (x + 1074, high, mul-assoc (suc m) (2 ^ x) (2 ^ 1074) ∙ ap (λ (y : ℕ). suc m * y) (sym (pow-add 2 x 1074)) ∙ sym (mul-one (suc m * 2 ^ (x + 1074))))
+place m (pos x) lo hi =
+    (x + 1074, high, mul-assoc (suc m) (2 ^ x) (2 ^ 1074) ∙ ap (λ (y : ℕ). suc m * y) (sym (pow-add 2 x 1074)) ∙ sym (mul-one (suc m * 2 ^ (x + 1074))))
   where
     x-lt : x < 1024
     x-lt = pow-lt-back x 1024 (lt-of-le-of-lt (le-trans (le-of-eq (sym (mul-comm 1 (2 ^ x) ∙ mul-one (2 ^ x)))) (mul-le-mul-right (2 ^ x) (zero-lt-suc m))) hi)
 
     high : x + 1074 ≤ 2097
     high = omega (arith, x-lt)
-place m (negsuc x) lo hi = (1074 - suc x, high, ap (λ (y : ℕ). y * 2 ^ 1074) (mul-one (suc m)) ∙ ap (λ (y : ℕ). suc m * y) (ap (λ (y : ℕ). 2 ^ y) parts ∙ pow-add 2 (1074 - suc x) (suc x)) ∙ sym (mul-assoc (suc m) (2 ^ (1074 - suc x)) (2 ^ suc x)))
+place m (negsuc x) lo hi = (
+  1074 - suc x,
+  high,
+  ap (λ (y : ℕ). y * 2 ^ 1074) (mul-one (suc m))
+      ∙ ap (λ (y : ℕ). suc m * y) (ap (λ (y : ℕ). 2 ^ y) parts ∙ pow-add 2 (1074 - suc x) (suc x)) ∙ sym (mul-assoc (suc m) (2 ^ (1074 - suc x)) (2 ^ suc x)),
+)
   where
     x-le : suc x ≤ 1074
     x-le = le-of-suc-le-suc (pow-lt-back (suc x) 1075 (lt-of-le-of-lt lo (pow-lt {i = 1074} {j = 1075} (lit< tt))))
@@ -170,7 +180,9 @@ place m (negsuc x) lo hi = (1074 - suc x, high, ap (λ (y : ℕ). y * 2 ^ 1074) 
     parts = omega (arith, x-le)
 
 -- x is n * 2 ^ -1074 for a whole n, and `sqrtOf x` is the nearest to its root
-pub sqrt-is-nearest : (m : ℕ) (e : ℤ) → T (fits binary64 (fin false (suc m) e)) → (n : ℕ) × HasValue (fin false (suc m) e) false n (2 ^ 1074) × NearestRoot n (sqrtOf (fin false (suc m) e))
+pub sqrt-is-nearest :
+    (m : ℕ) (e : ℤ) → T (fits binary64 (fin false (suc m) e)) →
+    (n : ℕ) × HasValue (fin false (suc m) e) false n (2 ^ 1074) × NearestRoot n (sqrtOf (fin false (suc m) e))
 unfolding fits
 sqrt-is-nearest m e f =
     let A = eqb (suc m % 2) 1 in
@@ -178,6 +190,7 @@ sqrt-is-nearest m e f =
     let D = leb (down e) (2 ^ 1074) in
     let E = ltb (suc m * up e) (2 ^ 1024 * down e) in
     let few : suc m < 2 ^ 53 = ltb→lt (suc m) (2 ^ 53) (and-r A B (and-l (A && B) D (and-l (A && B && D) E f))) in
-    let p = place m e (leb→le (down e) (2 ^ 1074) (and-r (A && B) D (and-l (A && B && D) E f))) (ltb→lt (suc m * up e) (2 ^ 1024 * down e) (and-r (A && B && D) E f)) in
+    let p =
+    place m e (leb→le (down e) (2 ^ 1074) (and-r (A && B) D (and-l (A && B && D) E f))) (ltb→lt (suc m * up e) (2 ^ 1024 * down e) (and-r (A && B && D) E f)) in
     let v : HasValue (fin false (suc m) e) false (suc m * 2 ^ (p .0)) (2 ^ 1074) = (refl, p .2) in
     (suc m * 2 ^ (p .0), v, sqrt-nearest (fin false (suc m) e) (suc m) (p .0) (zero-lt-suc m) few (p .1) v)

@@ -14,7 +14,9 @@ unfolding sqrtOf
 sqrt-of-value nan n h p = absurd h
 sqrt-of-value (inf s) n h p = absurd h
 sqrt-of-value (fin true m e) n h p = absurd (true≢false (h .0))
-sqrt-of-value (fin false zero e) n h p = absurd (lt-irrefl 0 (subst (λ (x : ℕ). 0 < x) (sym (h .1) ∙ ap (λ (x : ℕ). x * 2 ^ 1074) (zero-mul (up e)) ∙ zero-mul (2 ^ 1074)) (mul-pos p (down-pos e))))
+sqrt-of-value (fin false zero e) n h p =
+    absurd (lt-irrefl 0 (subst (λ (x : ℕ). 0 < x) (sym (h .1) ∙ ap (λ (x : ℕ). x * 2 ^ 1074) (zero-mul (up e)) ∙ zero-mul (2 ^ 1074)) (mul-pos p (down-pos e))))
 sqrt-of-value (fin false (suc m) e) n h p =
     ap (λ (x : ℕ). round binary64 false (sticky x) (2 ^ 593))
-    (ap (λ (x : ℕ). x / down e) (sym (mul-assoc (suc m * up e) (2 ^ 1074) (2 ^ 110)) ∙ ap (λ (x : ℕ). x * 2 ^ 110) (h .1) ∙ mul-right-comm n (down e) (2 ^ 110)) ∙ mul-div-cancel (n * 2 ^ 110) (down-pos e))
+    (ap (λ (x : ℕ). x / down e) (sym (mul-assoc (suc m * up e) (2 ^ 1074) (2 ^ 110)) ∙ ap (λ (x : ℕ). x * 2 ^ 110) (h .1)
+    ∙ mul-right-comm n (down e) (2 ^ 110)) ∙ mul-div-cancel (n * 2 ^ 110) (down-pos e))

@@ -60,7 +60,9 @@ module _ (p r : List ℕ) (wf : WellFormed p r) (x : ℕ) (hx : x < 64) (y : ℕ
   found-low = rw ey (find-law p r wf x hx .low)
 
 -- two finds and a link are a union
-pub unioned : (u : UnionFind) (a b x y : ℕ) (p q : List ℕ) → x ≡ findOf (u .parent) a .root → p ≡ findOf (u .parent) a .parent → y ≡ findOf p b .root → q ≡ findOf p b .parent
+pub unioned :
+    (u : UnionFind) (a b x y : ℕ) (p q : List ℕ) → x ≡ findOf (u .parent) a .root → p ≡ findOf (u .parent) a .parent → y ≡ findOf p b .root →
+    q ≡ findOf p b .parent
     → linkOf (record { parent = q; rank = u .rank }) x y ≡ unionOf u a b
 unfolding unionOf
 unioned u a b x y p q ex ep ey eq = rw (eq, ey, ex, ep)

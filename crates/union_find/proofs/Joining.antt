@@ -40,7 +40,9 @@ pairs-end (x ∷ xs) (y ∷ ys) zero h = absurd (omega arith)
 pairs-end (x ∷ xs) (y ∷ ys) (suc k) h = pairs-end xs ys k (omega arith)
 
 module _ (n : ℕ) (xs ys : List ℕ) (k : ℕ) (u : UnionFind) where
-  pub join-step : k < length xs → k < length ys → joinAll n (joinOf n u (getD xs k 0, getD ys k 0)) (drop (k + 1) (pairsOf xs ys)) ≡ joinAll n u (drop k (pairsOf xs ys))
+  pub join-step :
+      k < length xs → k < length ys →
+      joinAll n (joinOf n u (getD xs k 0, getD ys k 0)) (drop (k + 1) (pairsOf xs ys)) ≡ joinAll n u (drop k (pairsOf xs ys))
   join-step h g =
       ap (λ (m : ℕ). joinAll n (joinOf n u (getD xs k 0, getD ys k 0)) (drop m (pairsOf xs ys))) (add-one k)
       ∙ ap (joinAll n u) (sym (pairs-drop xs ys k h g))
@@ -66,7 +68,9 @@ seek-start n hn es u e =
       noted = λ k hk. absurd (omega arith);
     }
 
-pub seek-next : (p₀ p roots : List ℕ) (i : ℕ) → Seeking p₀ p roots i → i < 64 → (x : ℕ) (q : List ℕ) → x ≡ findOf p i .root → q ≡ findOf p i .parent → Seeking p₀ q (set roots i x) (i + 1)
+pub seek-next :
+    (p₀ p roots : List ℕ) (i : ℕ) → Seeking p₀ p roots i → i < 64 → (x : ℕ) (q : List ℕ) → x ≡ findOf p i .root → q ≡ findOf p i .parent →
+    Seeking p₀ q (set roots i x) (i + 1)
 seek-next p₀ p roots i s hi x q ex eq =
     subst (λ (q : List ℕ). Seeking p₀ q (set roots i x) (i + 1)) (sym eq)
     (record {
@@ -84,13 +88,16 @@ seek-next p₀ p roots i s hi x q ex eq =
     f : Finds p (s .ranked .0) i (findOf p i)
     f = find-law p (s .ranked .0) (s .ranked .1) i hi
 
-pub seek-end : (n m : ℕ) → m ≡ min n 64 → (es : List (ℕ × ℕ)) (u : UnionFind) → u ≡ joinAll m newOf es → (p roots : List ℕ) → Seeking (u .parent) p roots 64 → roots ≡ rootsOf n es
+pub seek-end :
+    (n m : ℕ) → m ≡ min n 64 → (es : List (ℕ × ℕ)) (u : UnionFind) → u ≡ joinAll m newOf es → (p roots : List ℕ) → Seeking (u .parent) p roots 64 →
+    roots ≡ rootsOf n es
 unfolding rootsOf
 seek-end n m em es u e p roots s =
     ext-getD 0 roots (table 64 root) (s .size ∙ sym (table-length 64 root))
     (λ k hk.
     let h : k < 64 = omega (arith, s .size) in
-    s .noted k h ∙ ap (λ (v : UnionFind). rootOf (v .parent) k) is ∙ sym (find-law (forest .parent) (forest .rank) sound k h .is-root) ∙ sym (table-at 64 root 0 k h))
+    s .noted k h ∙ ap (λ (v : UnionFind). rootOf (v .parent) k) is ∙ sym (find-law (forest .parent) (forest .rank) sound k h .is-root)
+    ∙ sym (table-at 64 root 0 k h))
   where
     forest : UnionFind
     forest = joinAll (min n 64) newOf es

@@ -59,7 +59,8 @@ finds r (suc k) p wf x s hx hk m =
     (λ e.
     let z = up p (up p x) in
     let hz : z < 64 = wf .low (up p x) (wf .low x hx) in
-    let f : Finds (halve p x) r z (findFrom k (halve p x) z (suc s)) = finds r k (halve p x) (halve-well p r wf x hx e) z (suc s) hz (omega arith) (made-next p r wf x s hx m e) in
+    let f : Finds (halve p x) r z (findFrom k (halve p x) z (suc s)) =
+    finds r k (halve p x) (halve-well p r wf x hx e) z (suc s) hz (omega arith) (made-next p r wf x s hx m e) in
     subst (Finds p r x) (sym (find-on k p x s e))
     (record {
       well = f .well;
@@ -74,18 +75,24 @@ unfolding findOf
 find-law p r wf x hx = finds r 64 p wf x 0 hx (omega arith) (inl (omega arith))
 
 -- the steps that follow do not hang on those made before, nor on how many may follow
-steps-apart : (r : List ℕ) (k j : ℕ) (p : List ℕ) → WellFormed p r → (x s t : ℕ) → x < 64 → 4 ≤ k + s → Made p r x s → 4 ≤ j + t → Made p r x t → findFrom k p x s .steps + t ≡ findFrom j p x t .steps + s
+steps-apart :
+    (r : List ℕ) (k j : ℕ) (p : List ℕ) → WellFormed p r → (x s t : ℕ) → x < 64 → 4 ≤ k + s → Made p r x s → 4 ≤ j + t → Made p r x t →
+    findFrom k p x s .steps + t ≡ findFrom j p x t .steps + s
 steps-apart r zero j p wf x s t hx hk m hj n = absurd (let c : s ≤ 3 = made-few p r wf x s hx m in omega arith)
 steps-apart r (suc k) zero p wf x s t hx hk m hj n = absurd (let c : t ≤ 3 = made-few p r wf x t hx n in omega arith)
 steps-apart r (suc k) (suc j) p wf x s t hx hk m hj n =
     by-cases (ℕ-discrete (up p x) x) (λ e. rw (find-stop (suc k) p x s e, find-stop (suc j) p x t e) (omega arith))
     (λ e.
-    let ih = steps-apart r k j (halve p x) (halve-well p r wf x hx e) (up p (up p x)) (suc s) (suc t) (wf .low (up p x) (wf .low x hx)) (omega arith) (made-next p r wf x s hx m e) (omega arith) (made-next p r wf x t hx n e) in
+    let ih =
+    steps-apart r k j (halve p x) (halve-well p r wf x hx e) (up p (up p x)) (suc s) (suc t) (wf .low (up p x) (wf .low x hx)) (omega arith)
+    (made-next p r wf x s hx m e) (omega arith) (made-next p r wf x t hx n e) in
     rw (find-on k p x s e, find-on j p x t e) (omega arith))
 
 -- each halving leaves one step less
 pub steps-less : (p r : List ℕ) → WellFormed p r → (x : ℕ) → x < 64 → up p x ≢ x → findOf (halve p x) (up p (up p x)) .steps < findOf p x .steps
 unfolding findOf
 steps-less p r wf x hx e =
-    let q = steps-apart r 63 64 (halve p x) (halve-well p r wf x hx e) (up p (up p x)) 1 0 (wf .low (up p x) (wf .low x hx)) (omega arith) (made-next p r wf x 0 hx (inl (omega arith)) e) (omega arith) (inl (omega arith)) in
+    let q =
+    steps-apart r 63 64 (halve p x) (halve-well p r wf x hx e) (up p (up p x)) 1 0 (wf .low (up p x) (wf .low x hx)) (omega arith)
+    (made-next p r wf x 0 hx (inl (omega arith)) e) (omega arith) (inl (omega arith)) in
     rw (find-on 63 p x 0 e) (omega arith)

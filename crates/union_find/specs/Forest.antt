@@ -51,7 +51,9 @@ linkOf u x y =
 
 -- two finds, then a link
 unfoldable pub unionOf : UnionFind → (a b : ℕ) → UnionFind
-unionOf u a b = linkOf (record { parent = findOf (findOf (u .parent) a .parent) b .parent; rank = u .rank }) (findOf (u .parent) a .root) (findOf (findOf (u .parent) a .parent) b .root)
+unionOf u a b =
+    linkOf (record { parent = findOf (findOf (u .parent) a .parent) b .parent; rank = u .rank }) (findOf (u .parent) a .root)
+    (findOf (findOf (u .parent) a .parent) b .root)
 
 -- a pair with a place that is not below n joins nothing
 unfoldable pub joinOf : (n : ℕ) → UnionFind → ℕ × ℕ → UnionFind

@@ -42,18 +42,23 @@ module _ (n : ℕ) (hn : n ≤ 64) where
   joins [] u R w t = record { sound = t .sound; kernel = kernel-same (λ i j r. inl r) (λ i j. ⊎-elim (λ r. r) (λ x. absurd (x .2))) (t .kernel) }
   joins (e ∷ es) u R w t =
       by-cases (decLt (e .0) n)
-      (λ ha. by-cases (decLt (e .1) n) (λ hb. into ha hb (joins es (unionOf u (e .0) (e .1)) (Also R (e .0) (e .1)))) (λ hb. past (λ ga gb. hb gb) (joins es u R w t)))
+      (λ ha. by-cases (decLt (e .1) n) (λ hb. into ha hb (joins es (unionOf u (e .0) (e .1)) (Also R (e .0) (e .1))))
+      (λ hb. past (λ ga gb. hb gb) (joins es u R w t)))
       (λ ha. past (λ ga gb. ha ga) (joins es u R w t))
     where
       After : UnionFind → Type 0
       After v = Tells (λ i j. R i j ⊎ Joined n (e ∷ es) i j) (joinAll n v es)
 
-      into : e .0 < n → e .1 < n → (Within 64 (Also R (e .0) (e .1)) → Tells (Also R (e .0) (e .1)) (unionOf u (e .0) (e .1)) → Tells (λ i j. Also R (e .0) (e .1) i j ⊎ Joined n es i j) (joinAll n (unionOf u (e .0) (e .1)) es)) → After (joinOf n u e)
+      into :
+          e .0 < n → e .1 < n →
+          (Within 64 (Also R (e .0) (e .1)) → Tells (Also R (e .0) (e .1)) (unionOf u (e .0) (e .1)) → Tells (λ i j. Also R (e .0) (e .1) i j ⊎ Joined n es i j) (joinAll n (unionOf u (e .0) (e .1)) es)) →
+          After (joinOf n u e)
       into ha hb more =
           let ga : e .0 < 64 = omega arith in
           let gb : e .1 < 64 = omega arith in
           let j : Joins u (e .0) (e .1) (unionOf u (e .0) (e .1)) = union-law u (t .sound) (e .0) (e .1) ga gb in
-          let m = more (λ a b. ⊎-elim (w a b) (λ s. (omega arith, omega arith))) (record { sound = j .sound; kernel = kernel-more ga gb w (j .merges) (t .kernel) }) in
+          let m =
+          more (λ a b. ⊎-elim (w a b) (λ s. (omega arith, omega arith))) (record { sound = j .sound; kernel = kernel-more ga gb w (j .merges) (t .kernel) }) in
           subst After (sym (join-in n u e ha hb))
           (record {
             sound = m .sound;
@@ -70,7 +75,8 @@ module _ (n : ℕ) (hn : n ≤ 64) where
             kernel = kernel-same
                 (λ a b. ⊎-elim (λ r. inl r) (λ s. inr (s .0, s .1, inr (s .2))))
                 (λ a b. ⊎-elim (λ r. inl r)
-                (λ s. ⊎-elim (λ q. absurd (h (subst (λ (x : ℕ). x < n) (q .0) (s .0)) (subst (λ (x : ℕ). x < n) (q .1) (s .1)))) (λ q. inr (s .0, s .1, q)) (s .2))) (m .kernel);
+                (λ s. ⊎-elim (λ q. absurd (h (subst (λ (x : ℕ). x < n) (q .0) (s .0)) (subst (λ (x : ℕ). x < n) (q .1) (s .1))))
+                (λ q. inr (s .0, s .1, q)) (s .2))) (m .kernel);
           })
 
   -- from fresh
@@ -79,7 +85,11 @@ module _ (n : ℕ) (hn : n ≤ 64) where
       let m = joins es newOf (λ i j. ⊥) (λ i j r. absurd r)
       (record {
         sound = new-law;
-        kernel = λ i j hi hj. ((λ e. kernel-start 64 i j hi hj .0 (sym (new-root i hi) ∙ e ∙ new-root j hj)), (λ c. new-root i hi ∙ kernel-start 64 i j hi hj .1 c ∙ sym (new-root j hj)));
+        kernel = λ i j hi hj. (
+          (λ e. kernel-start 64 i j hi hj .0 (sym (new-root i hi) ∙ e ∙ new-root j hj)),
+          (λ c. new-root i hi
+              ∙ kernel-start 64 i j hi hj .1 c ∙ sym (new-root j hj)),
+        );
       }) in
       record { sound = m .sound; kernel = kernel-same (λ i j. ⊎-elim (λ r. absurd r) (λ s. s)) (λ i j s. inr s) (m .kernel) }
 

@@ -37,7 +37,9 @@ module _ (u : UnionFind) (x y : ℕ) where
   unfolding linkOf
   link-more n h = simp (ne-eqb x y n, le-ltb rank-x rank-y (omega arith), lt-ltb rank-y rank-x h)
 
-  pub link-equal : x ≢ y → getD (u .rank) x 0 ≡ getD (u .rank) y 0 → linkOf u x y ≡ record { parent = set (u .parent) y x; rank = set (u .rank) x (getD (u .rank) x 0 + 1) }
+  pub link-equal :
+      x ≢ y → getD (u .rank) x 0 ≡ getD (u .rank) y 0 →
+      linkOf u x y ≡ record { parent = set (u .parent) y x; rank = set (u .rank) x (getD (u .rank) x 0 + 1) }
   unfolding linkOf
   link-equal n h = simp (ne-eqb x y n, le-ltb rank-x rank-y (omega arith), le-ltb rank-y rank-x (omega arith))
 
@@ -154,7 +156,8 @@ union-law u wf a b ha hb = record { sound = j .sound; merges = record { kept = k
     only′ : (i k : ℕ) → i < 64 → k < 64 → g i ≡ g k → (f i ≡ f k) ⊎ (((f i ≡ f a) × (f b ≡ f k)) ⊎ ((f i ≡ f b) × (f a ≡ f k)))
     only′ i k hi hk e =
         ⊎-elim (λ s. inl (sym (same i hi) ∙ s ∙ same k hk))
-        (λ t. inr (⊎-elim (λ s. inl (sym (same i hi) ∙ s .0 ∙ same a ha, sym (same b hb) ∙ s .1 ∙ same k hk)) (λ s. inr (sym (same i hi) ∙ s .0 ∙ same b hb, sym (same a ha) ∙ s .1 ∙ same k hk)) t))
+        (λ t. inr (⊎-elim (λ s. inl (sym (same i hi) ∙ s .0 ∙ same a ha, sym (same b hb) ∙ s .1 ∙ same k hk))
+        (λ s. inr (sym (same i hi) ∙ s .0 ∙ same b hb, sym (same a ha) ∙ s .1 ∙ same k hk)) t))
         (j .merges .only i k hi hk e)
 
 -- a table has n values, and f's at each place

@@ -73,7 +73,8 @@ module _ (p r : List ℕ) (wf : WellFormed p r) where
     where
       go : Dec (up p x ≡ x) → Root p x x
       go (yes e) = top e
-      go (no e) = absurd (let a : getD r x 0 < getD r (up p x) 0 = wf .rise x hx e in let b : getD r (up p x) 0 ≤ 6 = wf .cap (up p x) (wf .low x hx) in omega arith)
+      go (no e) =
+          absurd (let a : getD r x 0 < getD r (up p x) 0 = wf .rise x hx e in let b : getD r (up p x) 0 ≤ 6 = wf .cap (up p x) (wf .low x hx) in omega arith)
   climbs (suc k) x hx hk =
       by-cases (ℕ-discrete (up p x) x) (λ e. subst (Root p x) (sym (climb-root p x (suc k) e)) (top e))
       (λ e. via (climbs k (up p x) (wf .low x hx) (let a : getD r x 0 < getD r (up p x) 0 = wf .rise x hx e in omega arith)))
@@ -94,10 +95,13 @@ module _ (p r : List ℕ) (wf : WellFormed p r) where
   grand-rank x hx e =
       by-cases (ℕ-discrete (up p (up p x)) (up p x))
       (λ q. subst (λ (k : ℕ). getD r x 0 < getD r k 0) (sym q) (wf .rise x hx e))
-      (λ q. let a : getD r x 0 < getD r (up p x) 0 = wf .rise x hx e in let b : getD r (up p x) 0 < getD r (up p (up p x)) 0 = wf .rise (up p x) (wf .low x hx) q in omega arith)
+      (λ q. let a : getD r x 0 < getD r (up p x) 0 = wf .rise x hx e in let b : getD r (up p x) 0 < getD r (up p (up p x)) 0 = wf .rise (up p x)
+      (wf .low x hx) q in omega arith)
 
   pub grand-ne : (x : ℕ) → x < 64 → up p x ≢ x → up p (up p x) ≢ x
-  grand-ne x hx e q = let a : getD r x 0 < getD r (up p (up p x)) 0 = grand-rank x hx e in let b : getD r (up p (up p x)) 0 ≡ getD r x 0 = ap (λ (k : ℕ). getD r k 0) q in omega arith
+  grand-ne x hx e q =
+      let a : getD r x 0 < getD r (up p (up p x)) 0 = grand-rank x hx e in
+      let b : getD r (up p (up p x)) 0 ≡ getD r x 0 = ap (λ (k : ℕ). getD r k 0) q in omega arith
 
 module _ (p r : List ℕ) (wf : WellFormed p r) (x : ℕ) (hx : x < 64) (nx : up p x ≢ x) where
   at-x : up (halve p x) x ≡ up p (up p x)
@@ -109,7 +113,8 @@ module _ (p r : List ℕ) (wf : WellFormed p r) (x : ℕ) (hx : x < 64) (nx : up
   halve-root : {i y : ℕ} → Root p i y → Root (halve p x) i y
   halve-root (top {x = i} e) = top (at-other i (λ (q : i ≡ x). nx (subst (λ (k : ℕ). up p k ≡ k) q e)) ∙ e)
   halve-root (via {x = i} {y = y} d) =
-      by-cases (ℕ-discrete i x) (λ q. via (subst (λ (k : ℕ). Root (halve p x) k y) (sym (ap (up (halve p x)) q ∙ at-x)) (skip (subst (λ (k : ℕ). Root (halve p x) (up p k) y) q (halve-root d)))))
+      by-cases (ℕ-discrete i x) (λ q. via (subst (λ (k : ℕ). Root (halve p x) k y) (sym (ap (up (halve p x)) q ∙ at-x))
+      (skip (subst (λ (k : ℕ). Root (halve p x) (up p k) y) q (halve-root d)))))
       (λ q. via (subst (λ (k : ℕ). Root (halve p x) k y) (sym (at-other i q)) (halve-root d)))
     where
       skip : {y : ℕ} → Root (halve p x) (up p x) y → Root (halve p x) (up p (up p x)) y
@@ -185,7 +190,9 @@ module _ (p r : List ℕ) (wf : WellFormed p r) (x y : ℕ) (hx : x < 64) (hy : 
     link-root-away i hi e = root-eq (set p x y) r′ wf′ hi (link-away (root-is p r wf i hi) e)
 
     -- linking the roots of a and b, either way round
-    pub link-merges : (a b : ℕ) → a < 64 → b < 64 → ((rootOf p a ≡ x) × (rootOf p b ≡ y)) ⊎ ((rootOf p a ≡ y) × (rootOf p b ≡ x)) → Merged 64 (rootOf p) (rootOf (set p x y)) a b
+    pub link-merges :
+        (a b : ℕ) → a < 64 → b < 64 → ((rootOf p a ≡ x) × (rootOf p b ≡ y)) ⊎ ((rootOf p a ≡ y) × (rootOf p b ≡ x)) →
+        Merged 64 (rootOf p) (rootOf (set p x y)) a b
     link-merges a b ha hb ab = redirected x y ha hb link-root-over link-root-away ab
 
   -- the weights after linking, by where the ranks may differ: at y alone
@@ -210,7 +217,9 @@ module _ (p r : List ℕ) (wf : WellFormed p r) (x y : ℕ) (hx : x < 64) (hy : 
         subst₂ (λ (m k : ℕ). sum 64 (weigh p r) + m ≡ sum 64 (weigh (set p x y) r′) + k) (ap₂ _+_ weigh-x weigh-y ∙ zero-add _) (ap₂ _+_ qx qy) q
 
     -- a rank of y that is above x's, not below its own, and no heavier than both
-    pub link-well : length r′ ≡ 64 → getD r x 0 < getD r′ y 0 → getD r y 0 ≤ getD r′ y 0 → 2 ^ getD r′ y 0 ≤ 2 ^ getD r x 0 + 2 ^ getD r y 0 → WellFormed (set p x y) r′
+    pub link-well :
+        length r′ ≡ 64 → getD r x 0 < getD r′ y 0 → getD r y 0 ≤ getD r′ y 0 → 2 ^ getD r′ y 0 ≤ 2 ^ getD r x 0 + 2 ^ getD r y 0 →
+        WellFormed (set p x y) r′
     link-well len above grown light =
         record {
           plen = length-set p x y ∙ wf .plen;

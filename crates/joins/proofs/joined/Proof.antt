@@ -17,7 +17,10 @@ use Rattle.joins.proofs.joined.Statement.{statement}
 use Rattle.joins.proofs.joined.Tie as tie
 
 abbrev Inv-loop : tie.InvT-loop
-Inv-loop count ids strong n lambda t dense links end held a₀ b₀ k₀ q₀ a b k q = (k ≤ q) × (q ≤ end) × (end ≤ 2016) × (length a ≡ 2016) × (length b ≡ 2016) × (pairsOf (take k a) (take k b) ++ joinedBy (take held ids) (take held strong) lambda t dense (rest end q links) ≡ joinedBy (take n ids) (take n strong) lambda t dense (take count links))
+Inv-loop count ids strong n lambda t dense links end held a₀ b₀ k₀ q₀ a b k q =
+    (k ≤ q) × (q ≤ end) × (end ≤ 2016) × (length a ≡ 2016) × (length b
+    ≡ 2016) × (pairsOf (take k a) (take k b) ++ joinedBy (take held ids) (take held strong) lambda t dense (rest end q links)
+    ≡ joinedBy (take n ids) (take n strong) lambda t dense (take count links))
 
 abbrev μ-loop : tie.MeasureT-loop
 μ-loop count ids strong n lambda t dense links end held a₀ b₀ k₀ q₀ a b k q = end - q
@@ -37,8 +40,10 @@ loop-holds c =
       omega arith,
       refl,
       refl,
-      ap (λ (l : List Link). joinedBy (take (c .cut2 .result) (a .ids)) (take (c .cut2 .result) (a .strong)) (a .lambda) (a .t) (a .dense) l) (cut-start _ (a .count) 2016 (a .t1) (c .before .cut .ensures) (omega arith))
-          ∙ ap₂ (λ (x : List MicroId) (y : List Bool). joinedBy x y (a .lambda) (a .t) (a .dense) (take (a .count) (a .t1))) (cut-take _ (a .n) 64 (a .ids) h (omega arith)) (cut-take _ (a .n) 64 (a .strong) h (omega arith)),
+      ap (λ (l : List Link). joinedBy (take (c .cut2 .result) (a .ids)) (take (c .cut2 .result) (a .strong)) (a .lambda) (a .t) (a .dense) l)
+          (cut-start _ (a .count) 2016 (a .t1) (c .before .cut .ensures) (omega arith))
+          ∙ ap₂ (λ (x : List MicroId) (y : List Bool). joinedBy x y (a .lambda) (a .t) (a .dense) (take (a .count) (a .t1)))
+          (cut-take _ (a .n) 64 (a .ids) h (omega arith)) (cut-take _ (a .n) 64 (a .strong) h (omega arith)),
     )
 
 mul-l : tie.Need-mul-l Inv-loop μ-loop
@@ -97,8 +102,10 @@ loop-again c =
       v .2,
       simp length-set (v .3),
       simp length-set (v .4),
-      join-take ids strong (e .lambda) (e .t) (e .dense) end (k .q) (e .t1) _ h fits (k .k) (k .a) (k .b) (lo .result) (hi .result) (omega arith) (omega arith) (lo .ensures) (hi .ensures)
-          (joins-by ids strong (e .lambda) (e .t) (e .dense) _ (lo .result) (hi .result) (c .before .joins .result) _ (lo .ensures) (hi .ensures) (c .before .joins .ensures) (w .0 .taken)) ∙ v .5,
+      join-take ids strong (e .lambda) (e .t) (e .dense) end (k .q) (e .t1) _ h fits (k .k) (k .a) (k .b) (lo .result) (hi .result) (omega arith)
+          (omega arith) (lo .ensures) (hi .ensures)
+          (joins-by ids strong (e .lambda) (e .t) (e .dense) _ (lo .result) (hi .result) (c .before .joins .result) _ (lo .ensures) (hi .ensures)
+          (c .before .joins .ensures) (w .0 .taken)) ∙ v .5,
     ))
     (λ w. rw (w .1, w .2, w .3) (
       omega arith,
@@ -107,7 +114,8 @@ loop-again c =
       v .3,
       v .4,
       join-skip ids strong (e .lambda) (e .t) (e .dense) end (k .q) (e .t1) _ h fits (k .k) (k .a) (k .b)
-          (joins-by ids strong (e .lambda) (e .t) (e .dense) _ (lo .result) (hi .result) (c .before .joins .result) _ (lo .ensures) (hi .ensures) (c .before .joins .ensures) (w .0 .left)) ∙ v .5,
+          (joins-by ids strong (e .lambda) (e .t) (e .dense) _ (lo .result) (hi .result) (c .before .joins .result) _ (lo .ensures) (hi .ensures)
+          (c .before .joins .ensures) (w .0 .left)) ∙ v .5,
     ))
     (c .if1 .came)
 
@@ -115,8 +123,11 @@ returns : tie.Need-returns Inv-loop μ-loop
 returns c =
     let k = c .before .loop in
     let a = c .before .before .before .before .args in
-    let n = c .before .before .cut2 .result in
-    (sym (join-end (take n (a .ids)) (take n (a .strong)) (a .lambda) (a .t) (a .dense) (c .before .before .before .cut .result) (k .q) (a .t1) (pairsOf (take (k .k) (k .a)) (take (k .k) (k .b))) (omega arith)) ∙ k .inv .5, omega arith)
+    let n = c .before .before .cut2 .result in (
+      sym (join-end (take n (a .ids)) (take n (a .strong)) (a .lambda) (a .t) (a .dense) (c .before .before .before .cut .result) (k .q) (a .t1)
+          (pairsOf (take (k .k) (k .a)) (take (k .k) (k .b))) (omega arith)) ∙ k .inv .5,
+      omega arith,
+    )
 
 pub joined-spec : {M : Type 1} → statement M
 joined-spec =

@@ -14,10 +14,17 @@ faded-requires : tie.Need-faded-requires
 faded-requires c κs = search needs
 
 returns : tie.Need-returns
-returns c = sym (rw (sym (c .before .before .before .before .«is-strong» .ensures) ∙ c .before .before .before .if1 .taken, sym (c .before .before .«is-strong2» .ensures) ∙ c .before .if2 .taken, ← c .faded .ensures))
+returns c =
+    sym (rw (
+      sym (c .before .before .before .before .«is-strong» .ensures)
+          ∙ c .before .before .before .if1 .taken,
+      sym (c .before .before .«is-strong2» .ensures) ∙ c .before .if2 .taken,
+      ← c .faded .ensures,
+    ))
 
 returns-2 : tie.Need-returns-2
-returns-2 c = sym (rw (sym (c .before .before .before .«is-strong» .ensures) ∙ c .before .before .if1 .taken, sym (c .before .«is-strong2» .ensures) ∙ c .if2 .left))
+returns-2 c =
+    sym (rw (sym (c .before .before .before .«is-strong» .ensures) ∙ c .before .before .if1 .taken, sym (c .before .«is-strong2» .ensures) ∙ c .if2 .left))
 
 returns-3 : tie.Need-returns-3
 returns-3 c = sym (rw (sym (c .before .«is-strong» .ensures) ∙ c .if1 .left))

@@ -25,13 +25,17 @@ array-share-prefix-a : tie.Need-array-share-prefix-a
 array-share-prefix-a c = omega (arith, room-a (c .before .before), c .before .before .joined .ensures .1)
 
 slice-aggregate-roots : tie.Need-slice-aggregate-roots
-slice-aggregate-roots c = sym (length-take-le _ (c .before .before .before .joined .result .a) (omega (arith, room-a (c .before .before .before), c .before .before .before .joined .ensures .1)))
+slice-aggregate-roots c =
+    sym (length-take-le _ (c .before .before .before .joined .result .a)
+    (omega (arith, room-a (c .before .before .before), c .before .before .before .joined .ensures .1)))
 
 array-share-prefix-b : tie.Need-array-share-prefix-b
 array-share-prefix-b c = omega (arith, room-b (c .before .before .before), c .before .before .before .joined .ensures .1)
 
 slice-aggregate-roots-2 : tie.Need-slice-aggregate-roots-2
-slice-aggregate-roots-2 c = sym (length-take-le _ (c .before .before .before .before .joined .result .b) (omega (arith, room-b (c .before .before .before .before), c .before .before .before .before .joined .ensures .1)))
+slice-aggregate-roots-2 c =
+    sym (length-take-le _ (c .before .before .before .before .joined .result .b)
+    (omega (arith, room-b (c .before .before .before .before), c .before .before .before .before .joined .ensures .1)))
 
 roots-requires : tie.Need-roots-requires
 roots-requires c κs = search needs
@@ -43,7 +47,9 @@ returns : tie.Need-returns
 returns c =
     let a = c .before .before .before .before .before .before .before .before .args in
     let n = c .before .before .before .before .before .before .before .cut in
-    labelled (a .n) (n .result) (a .ids) (a .strong) (a .lambda) (a .t) (a .dense) (take (a .count) (a .links)) _ (c .before .roots .result) (c .labels .result) (n .ensures) (omega arith) (omega arith) (omega arith) (omega arith) (c .before .before .before .before .before .before .joined .ensures .0) (c .before .roots .ensures) (c .labels .ensures)
+    labelled (a .n) (n .result) (a .ids) (a .strong) (a .lambda) (a .t) (a .dense) (take (a .count) (a .links)) _ (c .before .roots .result)
+    (c .labels .result) (n .ensures) (omega arith) (omega arith) (omega arith) (omega arith)
+    (c .before .before .before .before .before .before .joined .ensures .0) (c .before .roots .ensures) (c .labels .ensures)
 
 pub labels-of-spec : {M : Type 1} → statement M
 labels-of-spec =

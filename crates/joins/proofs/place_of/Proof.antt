@@ -34,7 +34,8 @@ returns : tie.Need-returns Inv-loop μ-loop
 returns c =
     let k = c .before .before .before .before .before .loop in
     let a = c .before .before .before .before .before .before .args in
-    let e : placeAmong (rest (a .n) (k .i) (a .t1)) (a .id) ≡ 0 = place-here (a .id) (a .n) (k .i) (a .t1) _ (c .before .before .before .before .loop-test .taken) (omega arith) (c .if1 .taken) in
+    let e : placeAmong (rest (a .n) (k .i) (a .t1)) (a .id) ≡ 0 =
+    place-here (a .id) (a .n) (k .i) (a .t1) _ (c .before .before .before .before .loop-test .taken) (omega arith) (c .if1 .taken) in
     omega arith
 
 add-i : tie.Need-add-i Inv-loop μ-loop

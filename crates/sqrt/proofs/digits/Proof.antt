@@ -29,7 +29,8 @@ doubled-requires c κs =
 returns : tie.Need-returns
 returns c =
     let start = c .before .before .before .before .before in
-    found (start .args .m) (c .before .before .before .guess .result) (c .doubled .result) (c .before .before .before .before .if1 .taken) (start .pre .1) (c .before .before .if2 .taken) (c .doubled .ensures)
+    found (start .args .m) (c .before .before .before .guess .result) (c .doubled .result) (c .before .before .before .before .if1 .taken)
+    (start .pre .1) (c .before .before .if2 .taken) (c .doubled .ensures)
 
 by-digits-requires : tie.Need-by-digits-requires
 by-digits-requires c κs = search needs

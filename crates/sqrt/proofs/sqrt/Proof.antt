@@ -32,7 +32,8 @@ returns-2 c =
     let s = c .before .before .before .before in
     let x = s .args .x in
     let b = toBits binary64 x in
-    c .rounded .ensures ∙ sym (sqrt-of-value x (b * 2 ^ 0) (low-value x (held s) (c .before .if3 .taken)) (mul-pos (bits-pos x (held s) (c .before .before .if2 .taken)) (pow-pos 0)))
+    c .rounded .ensures ∙ sym (sqrt-of-value x (b * 2 ^ 0) (low-value x (held s) (c .before .if3 .taken))
+    (mul-pos (bits-pos x (held s) (c .before .before .if2 .taken)) (pow-pos 0)))
 
 add-rounded : tie.Need-add-rounded
 add-rounded c = search needs
@@ -50,7 +51,8 @@ returns-3 c =
     let b = toBits binary64 x in
     let lead : 0 < 2 ^ 52 + b % 2 ^ 52 = omega arith in
     c .rounded2 .ensures
-    ∙ sym (sqrt-of-value x ((2 ^ 52 + b % 2 ^ 52) * 2 ^ (b / 2 ^ 52 - 1)) (high-value x (held s) (c .before .before .if3 .left) (c .before .if4 .taken)) (mul-pos lead (pow-pos (b / 2 ^ 52 - 1))))
+    ∙ sym (sqrt-of-value x ((2 ^ 52 + b % 2 ^ 52) * 2 ^ (b / 2 ^ 52 - 1))
+    (high-value x (held s) (c .before .before .if3 .left) (c .before .if4 .taken)) (mul-pos lead (pow-pos (b / 2 ^ 52 - 1))))
 
 returns-4 : tie.Need-returns-4
 returns-4 c = above-all (c .before .before .before .before .args .x) (held (c .before .before .before .before)) (c .before .before .if2 .taken) (c .if4 .left)

@@ -32,7 +32,8 @@ sub-m : tie.Need-sub-m Inv-loop μ-loop
 sub-m c = search needs
 
 loop-holds : tie.Need-loop-holds Inv-loop μ-loop
-loop-holds c = closing-starts _ _ _ (buckets-room (c .before .before)) (classes-room (c .before .before)) (omega arith) (c .before .before .pre .1) (omega arith)
+loop-holds c =
+    closing-starts _ _ _ (buckets-room (c .before .before)) (classes-room (c .before .before)) (omega arith) (c .before .before .pre .1) (omega arith)
 
 add-p : tie.Need-add-p Inv-loop μ-loop
 add-p c = search needs
@@ -63,8 +64,11 @@ loop-again c = closing-steps _ _ _ _ _ _ (c .before .before .before .loop .inv) 
 
 returns : tie.Need-returns Inv-loop μ-loop
 returns c =
-    let e = c .before .before .before .before .before .before in
-    (omega arith, dropped-is (e .args .t1) _ _ _ _ _ (buckets-room e) (classes-room e) (e .pre .0) (c .before .before .before .before .variance-without .ensures) (c .before .before .before .loop .inv) (c .before .before .loop-test .left))
+    let e = c .before .before .before .before .before .before in (
+      omega arith,
+      dropped-is (e .args .t1) _ _ _ _ _ (buckets-room e) (classes-room e) (e .pre .0)
+          (c .before .before .before .before .variance-without .ensures) (c .before .before .before .loop .inv) (c .before .before .loop-test .left),
+    )
 
 pub drop-oldest-spec : {M : Type 1} → statement M
 drop-oldest-spec =

@@ -35,8 +35,10 @@ returns c =
     let a = e .args .self in
     let b : length (a .buckets) ≡ places = sym (length-map (a .buckets) _) ∙ e .good .0 .1 .1 .1 .0 .1 .0 .1 in
     let k : length (a .classes) ≡ places = sym (length-map (a .classes) _) ∙ e .good .0 .1 .1 .1 .1 .0 .1 .0 .1 in
-    let g : q .ln2 .result ≡ gOf (a .delta) (a .width) = q .ln2 .ensures ∙ ap (λ (x : Float). lnOf (two ⊗ x ⊘ a .delta)) (m .max .ensures ∙ ap (λ (x : Float). larger x one) (m .before .ln .ensures)) in
-    must-is (a .delta) (sumsOf a) (q .ln2 .result) (take (a .count) (a .buckets)) (c .some-fails-in .result) (m .before .before .if1 .taken) g (c .some-fails-in .ensures)
+    let g : q .ln2 .result ≡ gOf (a .delta) (a .width) =
+    q .ln2 .ensures ∙ ap (λ (x : Float). lnOf (two ⊗ x ⊘ a .delta)) (m .max .ensures ∙ ap (λ (x : Float). larger x one) (m .before .ln .ensures)) in
+    must-is (a .delta) (sumsOf a) (q .ln2 .result) (take (a .count) (a .buckets)) (c .some-fails-in .result) (m .before .before .if1 .taken) g
+    (c .some-fails-in .ensures)
     ∙ ap (mustDrop (a .delta) (sumsOf a)) (sym (buckets-are (a .count) (a .classes) (a .buckets) (k ∙ sym b)))
 
 returns-2 : tie.Need-returns-2

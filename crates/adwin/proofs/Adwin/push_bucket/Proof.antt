@@ -96,7 +96,8 @@ sub-m c = search needs
 loop2-holds : tie.Need-loop2-holds Inv-loop2 μ-loop2 Inv-loop μ-loop
 loop2-holds c =
     let p = c .before .before .before .before .before .before .before .before .before in
-    closing-starts _ _ _ (simp length-set (p .loop .inv .alike .buckets)) (simp length-set (p .loop .inv .alike .classes)) (omega arith) (omega arith) (omega arith)
+    closing-starts _ _ _ (simp length-set (p .loop .inv .alike .buckets)) (simp length-set (p .loop .inv .alike .classes)) (omega arith)
+    (omega arith) (omega arith)
 
 add-p : tie.Need-add-p Inv-loop2 μ-loop2 Inv-loop μ-loop
 add-p c = search needs
@@ -131,7 +132,9 @@ loop-less-2 c = search needs
 loop-again-2 : tie.Need-loop-again-2 Inv-loop2 μ-loop2 Inv-loop μ-loop
 loop-again-2 c =
     let p = c .before .before .before .before .before .before .before .before .before .before .before in
-    walk-merges _ _ _ _ _ (p .loop .inv) (p .loop .i - 1) (omega arith) (c .before .before .before .before .before .before .before .if1 .left) (c .before .before .before .before .before .before .if2 .taken) _ _ (c .before .before .before .merged .ensures) (c .before .before .next-class .ensures) _ _ _ (c .before .loop2 .inv) (c .loop2-test .left)
+    walk-merges _ _ _ _ _ (p .loop .inv) (p .loop .i - 1) (omega arith) (c .before .before .before .before .before .before .before .if1 .left)
+    (c .before .before .before .before .before .before .if2 .taken) _ _ (c .before .before .before .merged .ensures)
+    (c .before .before .next-class .ensures) _ _ _ (c .before .loop2 .inv) (c .loop2-test .left)
 
 add-k : tie.Need-add-k Inv-loop2 μ-loop2 Inv-loop μ-loop
 add-k c = search needs

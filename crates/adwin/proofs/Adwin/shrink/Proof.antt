@@ -20,8 +20,11 @@ must-drop-requires c κs = search needs
 
 drop-oldest-requires : tie.Need-drop-oldest-requires Inv-loop μ-loop
 drop-oldest-requires c κs =
-    let s = c .before .before .loop .self in
-    (some-held (s .delta) (sumsOf s) (s .count) (classed (s .classes) (s .buckets)) (sym (c .before .must-drop .ensures) ∙ c .if1 .taken), c .before .before .loop .inv .room)
+    let s = c .before .before .loop .self in (
+      some-held (s .delta) (sumsOf s) (s .count) (classed (s .classes) (s .buckets))
+          (sym (c .before .must-drop .ensures) ∙ c .if1 .taken),
+      c .before .before .loop .inv .room,
+    )
 
 loop-less : tie.Need-loop-less Inv-loop μ-loop
 loop-less c = search needs
@@ -29,7 +32,8 @@ loop-less c = search needs
 loop-again : tie.Need-loop-again Inv-loop μ-loop
 loop-again c =
     let k = c .before .before .before in
-    search-goes-on _ (k .loop .self) (k .loop .answer) _ (k .loop .inv) (sym (c .before .before .must-drop .ensures) ∙ c .before .if1 .taken) (c .drop-oldest .ensures .0) (c .drop-oldest .ensures .1)
+    search-goes-on _ (k .loop .self) (k .loop .answer) _ (k .loop .inv) (sym (c .before .before .must-drop .ensures) ∙ c .before .if1 .taken)
+    (c .drop-oldest .ensures .0) (c .drop-oldest .ensures .1)
 
 returns : tie.Need-returns Inv-loop μ-loop
 returns c =

@@ -25,7 +25,10 @@ room-told c =
     let a = c .args .self in
     room-is a (sym (length-map (a .buckets) _) ∙ c .good .0 .1 .1 .1 .0 .1 .0 .1) (sym (length-map (a .classes) _) ∙ c .good .0 .1 .1 .1 .1 .0 .1 .0 .1)
 
-pushed : (c : tie.After-push-bucket) → Pushed (c .before .before .before .before .before .before .before .args .self) (c .before .before .before .before .before .before .before .args .value) (c .push-bucket .result) (c .before .before .variance-with .result)
+pushed :
+    (c : tie.After-push-bucket) →
+    Pushed (c .before .before .before .before .before .before .before .args .self)
+    (c .before .before .before .before .before .before .before .args .value) (c .push-bucket .result) (c .before .before .variance-with .result)
 pushed c =
     let r = c .before .before .before .before in
     let f = r .before .before in
@@ -71,7 +74,12 @@ push-bucket-requires c κs =
 add-w : tie.Need-add-w
 add-w c =
     let p = pushed (c .before .before .before) in
-    omega (arith, ap (λ (u : Window). u .taken) (p .held), room-taken (view (c .before .before .before .before .before .before .before .before .before .before .args .self)) (p .room))
+    omega (
+      arith,
+      ap (λ (u : Window). u .taken) (p .held),
+      room-taken
+          (view (c .before .before .before .before .before .before .before .before .before .before .args .self)) (p .room),
+    )
 
 sub-if3 : tie.Need-sub-if3
 sub-if3 c = search needs
@@ -81,8 +89,14 @@ add-w-2 c = search needs
 
 returns-3 : tie.Need-returns-3
 returns-3 c =
-    let p = pushed (c .before .before .before .before .before .before) in
-    (unsearched _ _ _ _ p (c .before .if3 .taken), ((λ q. absurd (let z : _≡_ {A = ℕ} 0 8 = q in omega arith)), (λ q. absurd (true≢false (sym (p .finite) ∙ q)))))
+    let p = pushed (c .before .before .before .before .before .before) in (
+      unsearched _ _ _ _ p (c .before .if3 .taken),
+      (
+        (λ q. absurd (let z : _≡_ {A = ℕ} 0 8 = q in omega arith)),
+        (λ q. absurd
+            (true≢false (sym (p .finite) ∙ q))),
+      ),
+    )
 
 shrink-requires : tie.Need-shrink-requires
 shrink-requires c κs = search needs
@@ -90,8 +104,15 @@ shrink-requires c κs = search needs
 returns-4 : tie.Need-returns-4
 unfolding shrunk
 returns-4 c =
-    let p = pushed (c .before .before .before .before .before .before) in
-    (c .shrink .ensures ∙ searched _ _ _ _ p (c .before .if3 .left), ((λ q. absurd (let z : _≡_ {A = ℕ} 8 0 = sym q ∙ ap (λ (o : Outcome). o .refusal) (c .shrink .ensures) in omega arith)), (λ q. absurd (true≢false (sym (p .finite) ∙ q)))))
+    let p = pushed (c .before .before .before .before .before .before) in (
+      c .shrink .ensures ∙ searched _ _ _ _ p
+          (c .before .if3 .left),
+      (
+        (λ q. absurd (let z : _≡_ {A = ℕ} 8 0 = sym q
+            ∙ ap (λ (o : Outcome). o .refusal) (c .shrink .ensures) in omega arith)),
+        (λ q. absurd (true≢false (sym (p .finite) ∙ q))),
+      ),
+    )
 
 pub update-spec : {M : Type 1} → statement M
 update-spec =

@@ -40,7 +40,10 @@ abbrev distance : tie.After-update → tie.After-nearest
 distance c = c .before .before .before .before .before
 
 -- the update's answer, from the distance
-answered : (c : tie.After-update) → told (c .update .result) ≡ updateOf (window-view.view (distance c .before .before .args .self .adwin)) (sqrtOf (distance c .nearest .given .0 .0) ⊘ distance c .before .before .args .self .radius)
+answered :
+    (c : tie.After-update) →
+    told (c .update .result) ≡ updateOf (window-view.view (distance c .before .before .args .self .adwin))
+    (sqrtOf (distance c .nearest .given .0 .0) ⊘ distance c .before .before .args .self .radius)
 answered c =
     let a = distance c .before .before .args .self in
     c .update .ensures .0 ∙ ap (λ (y : Float). updateOf (window-view.view (a .adwin)) (y ⊘ a .radius)) (c .before .before .sqrt .ensures)
@@ -51,7 +54,8 @@ returns-2 c =
     let u = r .before .before in
     let n = distance u in
     let a = n .before .before .args in (
-      rang (view (a .self)) (u .update .result) _ (a .t) (answered u) (c .wrapping-add-u64 .result) (sym (r .rings .ensures) ∙ c .before .if1 .taken) (c .wrapping-add-u64 .ensures)
+      rang (view (a .self)) (u .update .result) _ (a .t) (answered u) (c .wrapping-add-u64 .result) (sym (r .rings .ensures) ∙ c .before .if1 .taken)
+          (c .wrapping-add-u64 .ensures)
           ∙ sym (ap (λ (x : Nearest). observeOf (view (a .self)) x (a .t)) (n .nearest .given .1)),
       (λ e. absurd (never _ (sym (n .nearest .given .1) ∙ e))),
     )

@@ -21,8 +21,11 @@ cut-requires c κs = search needs
 
 loop-holds : tie.Need-loop-holds Inv-loop μ-loop
 loop-holds c =
-    let a = c .before .args in
-    (search needs, ap₂ (sumFrom _) (cut-start (c .cut .result) (a .dim) 15 (a .t1) (c .cut .ensures) (omega arith)) (cut-start (c .cut .result) (a .dim) 15 (a .t2) (c .cut .ensures) (omega arith)))
+    let a = c .before .args in (
+      search needs,
+      ap₂ (sumFrom _) (cut-start (c .cut .result) (a .dim) 15 (a .t1) (c .cut .ensures) (omega arith))
+          (cut-start (c .cut .result) (a .dim) 15 (a .t2) (c .cut .ensures) (omega arith)),
+    )
 
 mul-d : tie.Need-mul-d Inv-loop μ-loop
 mul-d c = search needs

@@ -62,7 +62,8 @@ add-result c = omega (arith, small-2 (c .before .before))
 
 int-to-float-result : tie.Need-int-to-float-result
 unfolding inFloat
-int-to-float-result c = le→leb (c .before .before .before .truncating-f64-to-u642 .result + 1) 0x20_0000_0000_0000 (omega (arith, small-2 (c .before .before .before)))
+int-to-float-result c =
+    le→leb (c .before .before .before .truncating-f64-to-u642 .result + 1) 0x20_0000_0000_0000 (omega (arith, small-2 (c .before .before .before)))
 
 returns-3 : tie.Need-returns-3
 returns-3 c =

@@ -46,7 +46,8 @@ returns : tie.Need-returns
 unfolding lnBy ofBits
 returns c =
     let x = c .before .before .before in
-    rw (c .log-series .ensures, c .before .before .power-up .ensures, x .exponent .ensures .0) (sym (ln-case (x .before .before .before .before .args .v) true true (at-least (x .before)) (is-finite (x .before))))
+    rw (c .log-series .ensures, c .before .before .power-up .ensures, x .exponent .ensures .0)
+    (sym (ln-case (x .before .before .before .before .args .v) true true (at-least (x .before)) (is-finite (x .before))))
 
 returns-2 : tie.Need-returns-2
 unfolding ofBits

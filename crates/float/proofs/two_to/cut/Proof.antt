@@ -28,7 +28,9 @@ shr-result c = search needs
 
 int-to-float-result : tie.Need-int-to-float-result
 unfolding inFloat
-int-to-float-result c = le→leb (shiftOf (c .before .before .before .args .y)) 0x20_0000_0000_0000 (known (c .before .before .before) .within (c .before .before .if1 .left) (c .before .if2 .taken) .0)
+int-to-float-result c =
+    le→leb (shiftOf (c .before .before .before .args .y)) 0x20_0000_0000_0000
+    (known (c .before .before .before) .within (c .before .before .if1 .left) (c .before .if2 .taken) .0)
 
 returns-2 : tie.Need-returns-2
 returns-2 c = sym (known (c .before .before .before) .within (c .before .before .if1 .left) (c .before .if2 .taken) .1)

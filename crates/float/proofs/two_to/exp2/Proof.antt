@@ -12,7 +12,9 @@ use Rattle.float.proofs.two_to.exp2.Statement.{statement}
 use Rattle.float.proofs.two_to.exp2.Tie as tie
 
 -- the definition, by what its two tests say of y and of k
-by-tests : (y k : Float) (a b : Bool) → lt y nought ≡ a → k ≡ cutOf y → lt k least ≡ b → twoTo y ≡ cond a (cond b nought (steps ((y ⊖ k) ⊗ L) 20 one ⊗ minusPower (wholes k))) one
+by-tests :
+    (y k : Float) (a b : Bool) → lt y nought ≡ a → k ≡ cutOf y → lt k least ≡ b →
+    twoTo y ≡ cond a (cond b nought (steps ((y ⊖ k) ⊗ L) 20 one ⊗ minusPower (wholes k))) one
 unfolding twoTo
 by-tests y k a b p e q = rw (← q, ← p, e)
 
@@ -26,7 +28,8 @@ cut-requires c κs = subst T (sym (c .if1 .taken)) tt
 
 returns : tie.Need-returns
 returns c =
-    sym (by-tests (c .before .before .before .args .y) (c .before .cut .result) true true (c .before .before .if1 .taken) (c .before .cut .ensures) (rw limit at (c .if2 .taken)))
+    sym (by-tests (c .before .before .before .args .y) (c .before .cut .result) true true (c .before .before .if1 .taken) (c .before .cut .ensures)
+    (rw limit at (c .if2 .taken)))
 
 left : (c : tie.Else2) → lt (c .before .cut .result) least ≡ false
 left c = rw limit at (c .if2 .left)

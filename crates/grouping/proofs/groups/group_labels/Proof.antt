@@ -45,8 +45,11 @@ sums-requires c κs = search needs
 
 reaching-requires : tie.Need-reaching-requires
 reaching-requires c κs =
-    let k = c .before .before .before .before .before .before .before .before .before .cut .ensures in
-    (omega (arith, k), roots-low (c .before .before .before .before .before .before .before .before .before .cut .result) (omega (arith, k)) _ _ (c .before .before .roots .ensures))
+    let k = c .before .before .before .before .before .before .before .before .before .cut .ensures in (
+      omega (arith, k),
+      roots-low (c .before .before .before .before .before .before .before .before .before .cut .result) (omega (arith, k)) _ _
+          (c .before .before .roots .ensures),
+    )
 
 labels-requires : tie.Need-labels-requires
 labels-requires c κs = search needs
@@ -60,9 +63,12 @@ returns c =
     let d : ℕ = min (a .params .dim) 15 in
     let l = seen d (a .n) (a .pool) in
     labelled (a .params) (a .t) l (k .result) (seen-size d (a .n) (k .result) (a .pool) (k .ensures) s) (omega (arith, k .ensures)) _
-    (roots-cut (a .params .eps2) _ d (a .n) (k .result) (a .pool) _ _ (c .before .before .before .before .before .before .before .before .before .before .cut2 .ensures) (k .ensures) s (c .before .before .before .before .before .before .before .close-pairs .ensures .0) (c .before .before .before .before .roots .ensures))
+    (roots-cut (a .params .eps2) _ d (a .n) (k .result) (a .pool) _ _
+    (c .before .before .before .before .before .before .before .before .before .before .cut2 .ensures) (k .ensures) s
+    (c .before .before .before .before .before .before .before .close-pairs .ensures .0) (c .before .before .before .before .roots .ensures))
     _ (weights-cut d (a .n) (k .result) (a .pool) (a .params .lambda) (a .t) _ (k .ensures) s (c .before .before .before .faded-weights .ensures))
-    _ (c .before .before .sums .ensures) _ (c .before .reaching .ensures) (a .n) _ (k .ensures) (c .before .reaching .result) refl (c .labels .ensures) (search needs)
+    _ (c .before .before .sums .ensures) _ (c .before .reaching .ensures) (a .n) _ (k .ensures) (c .before .reaching .result) refl
+    (c .labels .ensures) (search needs)
 
 pub group-labels-spec : {M : Type 1} → statement M
 group-labels-spec =

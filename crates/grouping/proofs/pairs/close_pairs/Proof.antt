@@ -22,8 +22,14 @@ pair-row-requires c κs =
     let e = c .before .before .before .before in
     let a = e .args in
     let l = c .before .before .before .loop in
-    let h = c .before .before .loop-test .taken in
-    (h, e .pre .0, pair-room (a .eps2) (a .dim) (a .n) (a .pool) (l .a) (l .b) (l .count) (l .i) (l .inv) (omega arith) h (e .pre .0), l .inv .a-size, l .inv .b-size)
+    let h = c .before .before .loop-test .taken in (
+      h,
+      e .pre .0,
+      pair-room (a .eps2) (a .dim) (a .n) (a .pool) (l .a) (l .b) (l .count) (l .i) (l .inv) (omega arith) h
+          (e .pre .0),
+      l .inv .a-size,
+      l .inv .b-size,
+    )
 
 add-i : tie.Need-add-i Inv-loop μ-loop
 add-i c = search needs
@@ -35,7 +41,8 @@ loop-again : tie.Need-loop-again Inv-loop μ-loop
 loop-again c =
     let a = c .before .before .before .before .before .args in
     let l = c .before .before .before .before .loop in
-    pair-next (a .eps2) (a .dim) (a .n) (a .pool) (l .a) (l .b) (l .count) (l .i) (l .inv) (omega arith) (c .before .before .before .loop-test .taken) _ _ (c .pair-row .result) (c .pair-row .ensures .0) (c .pair-row .ensures .1 .0) (c .pair-row .ensures .1 .1)
+    pair-next (a .eps2) (a .dim) (a .n) (a .pool) (l .a) (l .b) (l .count) (l .i) (l .inv) (omega arith)
+    (c .before .before .before .loop-test .taken) _ _ (c .pair-row .result) (c .pair-row .ensures .0) (c .pair-row .ensures .1 .0) (c .pair-row .ensures .1 .1)
 
 returns : tie.Need-returns Inv-loop μ-loop
 returns c =

@@ -13,7 +13,9 @@ use Rattle.grouping.proofs.pairs.pair_row.Statement.{statement}
 use Rattle.grouping.proofs.pairs.pair_row.Tie as tie
 
 abbrev Inv-loop : tie.InvT-loop
-Inv-loop n i dim eps2 a₀ b₀ count pool centre k₀ j₀ a b k j = Rowed eps2 i (take dim centre) dim n pool (pairsOf (take count a₀) (take count b₀) ++ rowAt eps2 i (seen dim n pool)) (count + length (rowAt eps2 i (seen dim n pool))) a b k j
+Inv-loop n i dim eps2 a₀ b₀ count pool centre k₀ j₀ a b k j =
+    Rowed eps2 i (take dim centre) dim n pool (pairsOf (take count a₀) (take count b₀) ++ rowAt eps2 i (seen dim n pool))
+    (count + length (rowAt eps2 i (seen dim n pool))) a b k j
 
 abbrev μ-loop : tie.MeasureT-loop
 μ-loop n i dim eps2 a₀ b₀ count pool centre k₀ j₀ a b k j = n - j
@@ -24,7 +26,8 @@ room c =
     let a = c .before .before .before .before .before .before .before .before .before .before .args in
     let l = c .before .before .before .before .before .before .loop in
     let v = c .before .sq-euclidean in
-    row-room (a .eps2) (a .i) _ (a .dim) (a .n) (a .t1) _ _ (l .a) (l .b) (l .k) (l .j) (l .inv) (c .before .before .before .before .before .loop-test .taken) (omega arith) _ (v .result) (v .ensures) (c .if1 .taken)
+    row-room (a .eps2) (a .i) _ (a .dim) (a .n) (a .t1) _ _ (l .a) (l .b) (l .k) (l .j) (l .inv)
+    (c .before .before .before .before .before .loop-test .taken) (omega arith) _ (v .result) (v .ensures) (c .if1 .taken)
 
 mul-m : tie.Need-mul-m Inv-loop μ-loop
 mul-m c = search needs
@@ -78,8 +81,10 @@ loop-again c =
     let v = c .before .sq-euclidean in
     let h = c .before .before .before .before .before .loop-test .taken in
     ⊎-elim
-    (λ w. rw (w .1, w .2, w .3) (row-close (a .eps2) (a .i) _ (a .dim) (a .n) (a .t1) _ _ (l .a) (l .b) (l .k) (l .j) (l .inv) h (omega arith) _ (v .result) (v .ensures) (w .0 .taken)))
-    (λ w. rw (w .1, w .2, w .3) (row-far (a .eps2) (a .i) _ (a .dim) (a .n) (a .t1) _ _ (l .a) (l .b) (l .k) (l .j) (l .inv) h (omega arith) _ (v .result) (v .ensures) (w .0 .left)))
+    (λ w. rw (w .1, w .2, w .3) (row-close (a .eps2) (a .i) _ (a .dim) (a .n) (a .t1) _ _ (l .a) (l .b) (l .k) (l .j) (l .inv) h (omega arith) _
+    (v .result) (v .ensures) (w .0 .taken)))
+    (λ w. rw (w .1, w .2, w .3) (row-far (a .eps2) (a .i) _ (a .dim) (a .n) (a .t1) _ _ (l .a) (l .b) (l .k) (l .j) (l .inv) h (omega arith) _
+    (v .result) (v .ensures) (w .0 .left)))
     (c .if1 .came)
 
 returns : tie.Need-returns Inv-loop μ-loop

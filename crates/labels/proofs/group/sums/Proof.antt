@@ -57,8 +57,10 @@ loop-again c =
     let a = c .before .before .before .before .args in
     let l = c .before .before .loop in
     let end = c .before .before .before .cut .result in
-    ⊎-elim (λ w. subst (λ (s : List Float). Summing (a .t1) (a .t2) end s (l .i + 1)) (sym (w .1)) (sums-take (a .t1) (a .t2) end (l .sums) (l .i) (l .inv) (c .before .loop-test .taken) (omega arith) (omega arith) (omega arith) (w .0 .taken)))
-    (λ w. subst (λ (s : List Float). Summing (a .t1) (a .t2) end s (l .i + 1)) (sym (w .1)) (sums-pass (a .t1) (a .t2) end (l .sums) (l .i) (l .inv) (c .before .loop-test .taken) (omega arith) (omega arith) (omega arith) (w .0 .left)))
+    ⊎-elim (λ w. subst (λ (s : List Float). Summing (a .t1) (a .t2) end s (l .i + 1)) (sym (w .1))
+    (sums-take (a .t1) (a .t2) end (l .sums) (l .i) (l .inv) (c .before .loop-test .taken) (omega arith) (omega arith) (omega arith) (w .0 .taken)))
+    (λ w. subst (λ (s : List Float). Summing (a .t1) (a .t2) end s (l .i + 1)) (sym (w .1))
+    (sums-pass (a .t1) (a .t2) end (l .sums) (l .i) (l .inv) (c .before .loop-test .taken) (omega arith) (omega arith) (omega arith) (w .0 .left)))
     (c .if1 .came)
 
 returns : tie.Need-returns Inv-loop μ-loop
@@ -66,7 +68,8 @@ returns c =
     let a = c .before .before .before .args in
     let l = c .before .loop in
     let e : l .i ≡ c .before .before .cut .result = omega arith in
-    sums-end (a .t1) (a .t2) (a .n) (c .before .before .cut .result) (l .sums) (c .before .before .cut .ensures) (omega arith) (subst (Summing (a .t1) (a .t2) (c .before .before .cut .result) (l .sums)) e (l .inv))
+    sums-end (a .t1) (a .t2) (a .n) (c .before .before .cut .result) (l .sums) (c .before .before .cut .ensures) (omega arith)
+    (subst (Summing (a .t1) (a .t2) (c .before .before .cut .result) (l .sums)) e (l .inv))
 
 pub sums-spec : {M : Type 1} → statement M
 sums-spec =

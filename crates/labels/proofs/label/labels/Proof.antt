@@ -47,7 +47,13 @@ add-count c = search needs
 label-requires : tie.Need-label-requires Inv-loop μ-loop
 label-requires c κs =
     let l = c .before .before .before .before .loop in
-    omega (arith, c .before .place-in .ensures, place-most (getD (c .before .before .before .before .before .before .args .t1) (l .i) 0) (l .count) (l .met), l .inv .few)
+    omega (
+      arith,
+      c .before .place-in .ensures,
+      place-most (getD (c .before .before .before .before .before .before .args .t1) (l .i) 0) (l .count)
+          (l .met),
+      l .inv .few,
+    )
 
 mul-labels : tie.Need-mul-labels Inv-loop μ-loop
 mul-labels c = search needs
@@ -70,10 +76,15 @@ loop-again c =
     (λ w.
     let stored = toZ-ofZ (sfits-of {w = w64} (w .3 .ok)) ∙ w .3 .ensures in
     ⊎-elim
-    (λ x. rw (w .4, w .5, w .6, stored, x .1, x .2) (label-new (a .t2) (a .t1) end (l .labels) (l .met) (l .count) (l .i) (l .inv) (c .before .loop-test .taken) (omega arith) (omega arith) (omega arith) (w .0 .taken) (w .1 .result) (w .1 .ensures) (x .0 .taken)))
-    (λ x. rw (w .4, w .5, w .6, stored, x .1, x .2) (label-old (a .t2) (a .t1) end (l .labels) (l .met) (l .count) (l .i) (l .inv) (c .before .loop-test .taken) (omega arith) (omega arith) (omega arith) (w .0 .taken) (w .1 .result) (w .1 .ensures) (x .0 .left)))
+    (λ x. rw (w .4, w .5, w .6, stored, x .1, x .2)
+    (label-new (a .t2) (a .t1) end (l .labels) (l .met) (l .count) (l .i) (l .inv) (c .before .loop-test .taken) (omega arith) (omega arith)
+    (omega arith) (w .0 .taken) (w .1 .result) (w .1 .ensures) (x .0 .taken)))
+    (λ x. rw (w .4, w .5, w .6, stored, x .1, x .2)
+    (label-old (a .t2) (a .t1) end (l .labels) (l .met) (l .count) (l .i) (l .inv) (c .before .loop-test .taken) (omega arith) (omega arith)
+    (omega arith) (w .0 .taken) (w .1 .result) (w .1 .ensures) (x .0 .left)))
     (w .2 .came))
-    (λ w. rw (w .1, w .2, w .3) (label-out (a .t2) (a .t1) end (l .labels) (l .met) (l .count) (l .i) (l .inv) (c .before .loop-test .taken) (omega arith) (omega arith) (omega arith) (w .0 .left)))
+    (λ w. rw (w .1, w .2, w .3) (label-out (a .t2) (a .t1) end (l .labels) (l .met) (l .count) (l .i) (l .inv) (c .before .loop-test .taken)
+    (omega arith) (omega arith) (omega arith) (w .0 .left)))
     (c .if1 .came)
 
 returns : tie.Need-returns Inv-loop μ-loop
@@ -81,7 +92,8 @@ returns c =
     let a = c .before .before .before .args in
     let l = c .before .loop in
     let e : l .i ≡ c .before .before .cut .result = omega arith in
-    labels-end (a .t2) (a .t1) (a .n) (c .before .before .cut .result) (l .labels) (l .met) (l .count) (c .before .before .cut .ensures) (omega arith) (subst (Labelling (a .t2) (a .t1) (c .before .before .cut .result) (l .labels) (l .met) (l .count)) e (l .inv))
+    labels-end (a .t2) (a .t1) (a .n) (c .before .before .cut .result) (l .labels) (l .met) (l .count) (c .before .before .cut .ensures)
+    (omega arith) (subst (Labelling (a .t2) (a .t1) (c .before .before .cut .result) (l .labels) (l .met) (l .count)) e (l .inv))
 
 pub labels-spec : {M : Type 1} → statement M
 labels-spec =

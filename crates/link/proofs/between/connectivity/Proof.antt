@@ -17,7 +17,8 @@ density-requires c κs = search needs
 returns : tie.Need-returns
 returns c =
     let a = c .before .before .before .before .before .before .before .before .args in
-    let one = sym (c .before .before .before .before .before .before .before .is-among .ensures) ∙ c .before .before .before .before .before .before .if1 .taken in
+    let one =
+    sym (c .before .before .before .before .before .before .before .is-among .ensures) ∙ c .before .before .before .before .before .before .if1 .taken in
     let other = sym (c .before .before .before .before .before .is-among2 .ensures) ∙ c .before .before .before .before .if2 .taken in
     rw (one, other, ne-eqb (a .a .0) (a .b .0) (c .before .if3 .taken), ← c .density .ensures) refl
 

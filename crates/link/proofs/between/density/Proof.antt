@@ -18,7 +18,8 @@ abbrev over : (lambda t mean : Float) → Link → Float
 over lambda t mean l = fadedLink lambda t l ⊘ mean
 
 abbrev Inv-loop : tie.InvT-loop
-Inv-loop count mean lambda t links n key i₀ i = (i ≤ n) × (n ≤ 2016) × (ofLink (over lambda t mean) key (rest n i links) ≡ ofLink (over lambda t mean) key (take count links))
+Inv-loop count mean lambda t links n key i₀ i =
+    (i ≤ n) × (n ≤ 2016) × (ofLink (over lambda t mean) key (rest n i links) ≡ ofLink (over lambda t mean) key (take count links))
 
 abbrev μ-loop : tie.MeasureT-loop
 μ-loop count mean lambda t links n key i₀ i = n - i
@@ -31,8 +32,12 @@ key-of-requires c κs = search needs
 
 loop-holds : tie.Need-loop-holds Inv-loop μ-loop
 loop-holds c =
-    let a = c .before .before .args in
-    (search needs, omega (arith, c .before .cut .ensures), ap (ofLink (over (a .lambda) (a .t) (a .mean)) (c .«key-of» .result)) (cut-start (c .before .cut .result) (a .count) 2016 (a .t1) (c .before .cut .ensures) (omega arith)))
+    let a = c .before .before .args in (
+      search needs,
+      omega (arith, c .before .cut .ensures),
+      ap (ofLink (over (a .lambda) (a .t) (a .mean)) (c .«key-of» .result))
+          (cut-start (c .before .cut .result) (a .count) 2016 (a .t1) (c .before .cut .ensures) (omega arith)),
+    )
 
 mul-l : tie.Need-mul-l Inv-loop μ-loop
 mul-l c = search needs
@@ -52,7 +57,8 @@ returns c =
     let a = k .before .before .before .args in
     let o = over (a .lambda) (a .t) (a .mean) in
     ap (λ (v : Float). v ⊘ a .mean) (c .faded .ensures)
-    ∙ sym (link-here o (k .before .«key-of» .result) (k .before .before .cut .result) (k .loop .i) (a .t1) _ (omega arith) (omega arith) (sym (c .before .before .«same-ends» .ensures) ∙ c .before .if1 .taken))
+    ∙ sym (link-here o (k .before .«key-of» .result) (k .before .before .cut .result) (k .loop .i) (a .t1) _ (omega arith) (omega arith)
+    (sym (c .before .before .«same-ends» .ensures) ∙ c .before .if1 .taken))
     ∙ k .loop .inv .2 ∙ ap (λ (key : Link). ofLink o key (take (a .count) (a .t1))) (k .before .«key-of» .ensures)
 
 add-i : tie.Need-add-i Inv-loop μ-loop
@@ -64,8 +70,12 @@ loop-less c = search needs
 loop-again : tie.Need-loop-again Inv-loop μ-loop
 loop-again c =
     let k = c .before .before .before .before in
-    let a = k .before .before .before .args in
-    (search needs, k .loop .inv .1, link-next (over (a .lambda) (a .t) (a .mean)) (k .before .«key-of» .result) (k .before .before .cut .result) (k .loop .i) (a .t1) _ (omega arith) (omega arith) (sym (c .before .«same-ends» .ensures) ∙ c .if1 .left) ∙ k .loop .inv .2)
+    let a = k .before .before .before .args in (
+      search needs,
+      k .loop .inv .1,
+      link-next (over (a .lambda) (a .t) (a .mean)) (k .before .«key-of» .result) (k .before .before .cut .result)
+          (k .loop .i) (a .t1) _ (omega arith) (omega arith) (sym (c .before .«same-ends» .ensures) ∙ c .if1 .left) ∙ k .loop .inv .2,
+    )
 
 returns-2 : tie.Need-returns-2 Inv-loop μ-loop
 returns-2 c =

@@ -23,8 +23,12 @@ cut-requires c κs = search needs
 
 loop-holds : tie.Need-loop-holds Inv-loop μ-loop
 loop-holds c =
-    let a = c .before .args in
-    (search needs, omega (arith, c .cut .ensures), ap (λ (l : List MicroId). isAmong l (a .id)) (cut-start (c .cut .result) (a .n) 64 (a .t1) (c .cut .ensures) (omega arith)))
+    let a = c .before .args in (
+      search needs,
+      omega (arith, c .cut .ensures),
+      ap (λ (l : List MicroId). isAmong l (a .id))
+          (cut-start (c .cut .result) (a .n) 64 (a .t1) (c .cut .ensures) (omega arith)),
+    )
 
 mul-a : tie.Need-mul-a Inv-loop μ-loop
 mul-a c = search needs
@@ -47,8 +51,12 @@ loop-less c = search needs
 loop-again : tie.Need-loop-again Inv-loop μ-loop
 loop-again c =
     let k = c .before .before .before .before .before in
-    let a = k .before .before .args in
-    (search needs, k .loop .inv .1, among-next (a .id) (k .before .cut .result) (k .loop .i) (a .t1) _ (omega arith) (omega arith) (c .if1 .left) ∙ k .loop .inv .2)
+    let a = k .before .before .args in (
+      search needs,
+      k .loop .inv .1,
+      among-next (a .id) (k .before .cut .result) (k .loop .i) (a .t1) _ (omega arith) (omega arith) (c .if1 .left)
+          ∙ k .loop .inv .2,
+    )
 
 returns-2 : tie.Need-returns-2 Inv-loop μ-loop
 returns-2 c =

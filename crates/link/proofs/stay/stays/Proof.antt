@@ -18,12 +18,15 @@ faded-requires c κs = search needs
 returns : tie.Need-returns
 returns c =
     let e = c .before .before .before .before .before .before .before .args in
-    both-held (e .lambda) (e .floor) (e .t) (take (e .n) (e .ids)) (e .l) (c .faded .result) _ (sym (c .before .before .before .before .«is-among» .ensures) ∙ c .before .before .before .if1 .taken) (sym (c .before .before .«is-among2» .ensures) ∙ c .before .if2 .taken) (c .faded .ensures) refl
+    both-held (e .lambda) (e .floor) (e .t) (take (e .n) (e .ids)) (e .l) (c .faded .result) _
+    (sym (c .before .before .before .before .«is-among» .ensures) ∙ c .before .before .before .if1 .taken)
+    (sym (c .before .before .«is-among2» .ensures) ∙ c .before .if2 .taken) (c .faded .ensures) refl
 
 returns-2 : tie.Need-returns-2
 returns-2 c =
     let e = c .before .before .before .before .before .before .args in
-    lost-hi (e .lambda) (e .floor) (e .t) (take (e .n) (e .ids)) (e .l) (sym (c .before .before .before .«is-among» .ensures) ∙ c .before .before .if1 .taken) (sym (c .before .«is-among2» .ensures) ∙ c .if2 .left)
+    lost-hi (e .lambda) (e .floor) (e .t) (take (e .n) (e .ids)) (e .l)
+    (sym (c .before .before .before .«is-among» .ensures) ∙ c .before .before .if1 .taken) (sym (c .before .«is-among2» .ensures) ∙ c .if2 .left)
 
 returns-3 : tie.Need-returns-3
 returns-3 c =

@@ -20,7 +20,8 @@ returns : tie.Need-returns
 returns c =
     let a = c .before .before .before .args in
     let cfs = c .before .features in
-    predicted featureOf (cutTo (min (a .dim) maxDim)) (a .dim) (a .n) (λ m. refl) (a .micros) (cfs .result) (cfs .ensures) (a .r ⊗ a .r) (take (a .label-count) (a .labels)) (a .x .now) _ (c .predict .ensures)
+    predicted featureOf (cutTo (min (a .dim) maxDim)) (a .dim) (a .n) (λ m. refl) (a .micros) (cfs .result) (cfs .ensures) (a .r ⊗ a .r)
+    (take (a .label-count) (a .labels)) (a .x .now) _ (c .predict .ensures)
 
 pub predict-spec : {M : Type 1} → statement M
 predict-spec = tie.close (tie.spec features-requires predict-requires returns)

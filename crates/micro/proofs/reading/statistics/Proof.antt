@@ -33,7 +33,9 @@ returns c =
     let a = c .before .before .before .before .before .before .before .before .before .before .before .before .before .before .before .args in
     let cfs = c .before .before .before .before .before .before .before .before .before .before .before .features in
     let ws = c .before .before .before .before .before .before .before .before .before .before .faded-weights in
-    told featureOf (cutTo (min (a .dim) maxDim)) (a .dim) (a .n) (λ m. refl) (a .micros) (cfs .result) (cfs .ensures) (fadedWeight (a .lambda) (a .t)) (λ m. refl) (take (a .n) (ws .result)) (a .centres .now) (a .weights .now) (a .radii .now) _ (ws .ensures) (c .before .before .before .before .before .before .statistics .ensures)
+    told featureOf (cutTo (min (a .dim) maxDim)) (a .dim) (a .n) (λ m. refl) (a .micros) (cfs .result) (cfs .ensures)
+    (fadedWeight (a .lambda) (a .t)) (λ m. refl) (take (a .n) (ws .result)) (a .centres .now) (a .weights .now) (a .radii .now) _ (ws .ensures)
+    (c .before .before .before .before .before .before .statistics .ensures)
 
 pub statistics-spec : {M : Type 1} → statement M
 statistics-spec =

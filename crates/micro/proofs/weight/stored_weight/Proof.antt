@@ -36,7 +36,8 @@ returns : tie.Need-returns Inv-loop μ-loop
 returns c =
     let k = c .before .before .before .before .before .before .before .loop in
     let a = c .before .before .before .before .before .before .before .before .before .args in
-    sym (weight-here (a .id) (c .before .before .before .before .before .before .before .before .cut .result) (k .i) (a .t1) _ (c .before .before .before .before .before .before .loop-test .taken) (omega arith) (c .before .if1 .taken)) ∙ k .inv .2
+    sym (weight-here (a .id) (c .before .before .before .before .before .before .before .before .cut .result) (k .i) (a .t1) _
+    (c .before .before .before .before .before .before .loop-test .taken) (omega arith) (c .before .if1 .taken)) ∙ k .inv .2
 
 add-i : tie.Need-add-i Inv-loop μ-loop
 add-i c = search needs
@@ -47,8 +48,12 @@ loop-less c = search needs
 loop-again : tie.Need-loop-again Inv-loop μ-loop
 loop-again c =
     let k = c .before .before .before .before .before .before .loop in
-    let a = c .before .before .before .before .before .before .before .before .args in
-    (omega arith, omega arith, weight-next (a .id) (c .before .before .before .before .before .before .before .cut .result) (k .i) (a .t1) _ (c .before .before .before .before .before .loop-test .taken) (omega arith) (c .if1 .left) ∙ k .inv .2)
+    let a = c .before .before .before .before .before .before .before .before .args in (
+      omega arith,
+      omega arith,
+      weight-next (a .id) (c .before .before .before .before .before .before .before .cut .result) (k .i) (a .t1) _
+          (c .before .before .before .before .before .loop-test .taken) (omega arith) (c .if1 .left) ∙ k .inv .2,
+    )
 
 returns-2 : tie.Need-returns-2 Inv-loop μ-loop
 returns-2 c =

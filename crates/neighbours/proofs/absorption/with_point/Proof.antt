@@ -42,7 +42,8 @@ wrapping-add-u64-requires c κs = search needs
 loop-holds : tie.Need-loop-holds Inv-loop μ-loop
 loop-holds c =
     let e = c .before .before .before .before in
-    absorbing-starts _ _ (c .before .before .before .cut .result) _ (e .args .t1) (omega (arith, c .before .before .before .cut .ensures)) (distances-room e) (omega arith)
+    absorbing-starts _ _ (c .before .before .before .cut .result) _ (e .args .t1) (omega (arith, c .before .before .before .cut .ensures))
+    (distances-room e) (omega arith)
 
 mul-if3 : tie.Need-mul-if3 Inv-loop μ-loop
 mul-if3 c = search needs
@@ -75,26 +76,32 @@ loop-again : tie.Need-loop-again Inv-loop μ-loop
 loop-again c =
     let k = c .before .before .loop in
     let h = c .before .loop-test .taken in
-    ⊎-elim (λ w. rw (w .3) (absorbing-takes (k .inv) _ (w .2 .result) h (w .2 .ensures) (w .0 .taken))) (λ w. rw (w .1) (absorbing-skips (k .inv) h (w .0 .left))) (c .if3 .came)
+    ⊎-elim (λ w. rw (w .3) (absorbing-takes (k .inv) _ (w .2 .result) h (w .2 .ensures) (w .0 .taken)))
+    (λ w. rw (w .1) (absorbing-skips (k .inv) h (w .0 .left))) (c .if3 .came)
 
 returns : tie.Need-returns Inv-loop μ-loop
 returns c =
     let a = c .before .before .before .before .before .before .args in
     let n = c .before .before .before .before .before .cut in
-    born-placed (a .scan) (a .r) (a .lambda) (a .t) (a .next-id) (take (a .dim) (a .x)) (a .n) (a .t1) (n .result) (n .ensures) (omega arith) (c .before .before .before .if1 .taken) (c .before .before .if2 .taken) (c .before .newborn .result) (c .before .newborn .ensures) (c .«wrapping-add-u64» .result) (c .«wrapping-add-u64» .ensures)
+    born-placed (a .scan) (a .r) (a .lambda) (a .t) (a .next-id) (take (a .dim) (a .x)) (a .n) (a .t1) (n .result) (n .ensures) (omega arith)
+    (c .before .before .before .if1 .taken) (c .before .before .if2 .taken) (c .before .newborn .result) (c .before .newborn .ensures)
+    (c .«wrapping-add-u64» .result) (c .«wrapping-add-u64» .ensures)
 
 returns-2 : tie.Need-returns-2 Inv-loop μ-loop
 returns-2 c =
     let a = c .before .before .before .before .args in
     let n = c .before .before .before .cut in
-    full-placed (a .scan) (a .r) (a .lambda) (a .t) (a .next-id) (take (a .dim) (a .x)) (a .n) (a .t1) (n .result) (n .ensures) (omega arith) (c .before .if1 .taken) (c .if2 .left)
+    full-placed (a .scan) (a .r) (a .lambda) (a .t) (a .next-id) (take (a .dim) (a .x)) (a .n) (a .t1) (n .result) (n .ensures) (omega arith)
+    (c .before .if1 .taken) (c .if2 .left)
 
 returns-3 : tie.Need-returns-3 Inv-loop μ-loop
 returns-3 c =
     let a = c .before .before .before .before .before .before .args in
     let n = c .before .before .before .before .before .cut in
     let k = c .before .loop in
-    absorbed-placed (a .scan) (a .r) (a .lambda) (a .t) (a .next-id) (take (a .dim) (a .x)) (a .n) (a .t1) (n .result) (n .ensures) (omega arith) (distances-room (c .before .before .before .before .before .before)) (c .before .before .before .if1 .left) (k .micros) (k .inv .size) (absorbing-ends (k .inv) (c .loop-test .left))
+    absorbed-placed (a .scan) (a .r) (a .lambda) (a .t) (a .next-id) (take (a .dim) (a .x)) (a .n) (a .t1) (n .result) (n .ensures) (omega arith)
+    (distances-room (c .before .before .before .before .before .before)) (c .before .before .before .if1 .left) (k .micros) (k .inv .size)
+    (absorbing-ends (k .inv) (c .loop-test .left))
 
 pub with-point-spec : {M : Type 1} → statement M
 with-point-spec =

@@ -66,7 +66,8 @@ loop-again c =
 returns-2 : tie.Need-returns-2 Inv-loop μ-loop
 returns-2 c =
     let k = c .before .loop in
-    ap Distance (sym (fold-end smaller (c .before .before .before .cut .result) (k .i) (c .before .before .before .before .args .t1) (k .best) (omega arith))) ∙ k .inv .2
+    ap Distance (sym (fold-end smaller (c .before .before .before .cut .result) (k .i) (c .before .before .before .before .args .t1) (k .best)
+    (omega arith))) ∙ k .inv .2
 
 pub least-spec : {M : Type 1} → statement M
 least-spec =

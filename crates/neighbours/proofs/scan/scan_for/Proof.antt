@@ -91,7 +91,13 @@ loop-again c =
       simp length-set (q .2),
       filter-take idOf p n (k .i) (a .t1) _ h fits (k .k) (k .ids) _ (omega (arith, q .0 .cut)) refl (sym near ∙ w .0 .taken) ∙ q .3,
     ))
-    (λ w. rw (w .1, w .2) (gather-goes (q .0) _ h measured, omega arith, q .2, filter-skip idOf p n (k .i) (a .t1) _ h fits (k .k) (k .ids) (sym near ∙ w .0 .left) ∙ q .3))
+    (λ w. rw (w .1, w .2) (
+      gather-goes (q .0) _ h measured,
+      omega arith,
+      q .2,
+      filter-skip idOf p n (k .i) (a .t1) _ h fits (k .k) (k .ids)
+          (sym near ∙ w .0 .left) ∙ q .3,
+    ))
     (c .if1 .came)
 
 least-requires : tie.Need-least-requires Inv-loop μ-loop
@@ -103,9 +109,11 @@ returns c =
     let a = c .before .before .before .before .args in
     let x = take (a .dim) (a .x) in
     let few : k .k ≤ length (k .ids) = omega (arith, k .inv .0 .most, k .inv .0 .cut, k .inv .1, k .inv .2) in
-    scanned (a .r) x (held (a .dim) (a .n) (a .t1)) (a .n) _ (gather-ends (k .inv .0) (omega arith) ∙ sym (map-map (λ (m : DbMicro). distanceTo x (m .cf)) (cutTo (a .dim)) (take (a .n) (a .t1))))
+    scanned (a .r) x (held (a .dim) (a .n) (a .t1)) (a .n) _
+    (gather-ends (k .inv .0) (omega arith) ∙ sym (map-map (λ (m : DbMicro). distanceTo x (m .cf)) (cutTo (a .dim)) (take (a .n) (a .t1))))
     (c .least .ensures)
-    (sym (filter-end idOf (isNear (a .r) x (a .dim)) (c .before .before .before .cut .result) (k .i) (a .t1) (take (k .k) (k .ids)) (omega arith)) ∙ k .inv .3 ∙ neighbours-view (a .r) x (a .dim) (take (a .n) (a .t1)))
+    (sym (filter-end idOf (isNear (a .r) x (a .dim)) (c .before .before .before .cut .result) (k .i) (a .t1) (take (k .k) (k .ids)) (omega arith))
+    ∙ k .inv .3 ∙ neighbours-view (a .r) x (a .dim) (take (a .n) (a .t1)))
     few
 
 pub scan-for-spec : {M : Type 1} → statement M

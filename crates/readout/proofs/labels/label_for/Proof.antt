@@ -10,7 +10,8 @@ use Rattle.readout.proofs.labels.label_for.Tie as tie
 
 counted :
     (c : tie.After-cut2) →
-    Counted (c .before .before .args .distances) (c .before .before .args .n) (c .cut2 .result) (c .before .before .args .t3) (c .before .before .args .label-count) (c .before .cut .result)
+    Counted (c .before .before .args .distances) (c .before .before .args .n) (c .cut2 .result) (c .before .before .args .t3)
+    (c .before .before .args .label-count) (c .before .cut .result)
 counted c = record { end-is = c .cut2 .ensures; ds-long = omega arith; count-is = c .before .cut .ensures; labels-long = omega arith }
 
 cut-requires : tie.Need-cut-requires
@@ -32,19 +33,40 @@ enum-told : tie.Need-enum-told
 enum-told c = search needs
 
 returns-2 : tie.Need-returns-2
-returns-2 c = label-found (c .before .before .before .before .before .before .args .radius2) (counted (c .before .before .before .before)) (c .before .before .before .if1 .left) (c .before .before .nearest .ensures) Nothing (c .enum-told .given .1)
+returns-2 c =
+    label-found (c .before .before .before .before .before .before .args .radius2) (counted (c .before .before .before .before))
+    (c .before .before .before .if1 .left) (c .before .before .nearest .ensures) Nothing (c .enum-told .given .1)
 
 mul-result : tie.Need-mul-result
-mul-result c = omega (arith, place-low (c .before .before .before .before .before .before .before .before .args .radius2) (counted (c .before .before .before .before .before .before)) (c .before .before .before .before .before .if1 .left) (c .before .before .before .before .nearest .ensures) (c .before .before .found .given .1))
+mul-result c =
+    omega (
+      arith,
+      place-low (c .before .before .before .before .before .before .before .before .args .radius2)
+          (counted (c .before .before .before .before .before .before)) (c .before .before .before .before .before .if1 .left)
+          (c .before .before .before .before .nearest .ensures) (c .before .before .found .given .1),
+    )
 
 array-copy-out-result : tie.Need-array-copy-out-result
-array-copy-out-result c = omega (arith, place-low (c .before .before .before .before .before .before .before .before .args .radius2) (counted (c .before .before .before .before .before .before)) (c .before .before .before .before .before .if1 .left) (c .before .before .before .before .nearest .ensures) (c .before .before .found .given .1))
+array-copy-out-result c =
+    omega (
+      arith,
+      place-low (c .before .before .before .before .before .before .before .before .args .radius2)
+          (counted (c .before .before .before .before .before .before)) (c .before .before .before .before .before .if1 .left)
+          (c .before .before .before .before .nearest .ensures) (c .before .before .found .given .1),
+    )
 
 returns-3 : tie.Need-returns-3
-returns-3 c = label-near (c .before .before .before .before .before .before .before .before .before .args .radius2) (counted (c .before .before .before .before .before .before .before)) (c .before .before .before .before .before .before .if1 .left) (c .before .before .before .before .before .nearest .ensures) (c .before .before .before .found .given .1) (c .before .if2 .taken) _ (toZ-ofZ (sfits-of {w = w64} (c .result .given)))
+returns-3 c =
+    label-near (c .before .before .before .before .before .before .before .before .before .args .radius2)
+    (counted (c .before .before .before .before .before .before .before)) (c .before .before .before .before .before .before .if1 .left)
+    (c .before .before .before .before .before .nearest .ensures) (c .before .before .before .found .given .1) (c .before .if2 .taken) _
+    (toZ-ofZ (sfits-of {w = w64} (c .result .given)))
 
 returns-4 : tie.Need-returns-4
-returns-4 c = label-far (c .before .before .before .before .before .before .before .before .args .radius2) (counted (c .before .before .before .before .before .before)) (c .before .before .before .before .before .if1 .left) (c .before .before .before .before .nearest .ensures) (c .before .before .found .given .1) (c .if2 .left)
+returns-4 c =
+    label-far (c .before .before .before .before .before .before .before .before .args .radius2)
+    (counted (c .before .before .before .before .before .before)) (c .before .before .before .before .before .if1 .left)
+    (c .before .before .before .before .nearest .ensures) (c .before .before .found .given .1) (c .if2 .left)
 
 pub label-for-spec : {M : Type 1} → statement M
 label-for-spec =

@@ -65,11 +65,15 @@ loop-again c =
     let step = count-step end (l .i) (a .t1) label (toZ-ofZ (sfits-of {w = w64} (c .before .before .label .given))) in
     ⊎-elim
     (λ w.
-    let s = step true false (sym (c .before .same-family .ensures) ∙ w .0 .taken) (sym (w .1 .ensures) ∙ not-true _ (w .2 .taken)) (c .before .before .before .loop-test .taken) (omega arith) in
+    let s =
+    step true false (sym (c .before .same-family .ensures) ∙ w .0 .taken) (sym (w .1 .ensures) ∙ not-true _ (w .2 .taken))
+    (c .before .before .before .loop-test .taken) (omega arith) in
     (omega arith, omega (arith, w .3), omega (arith, w .3, s, l .inv .2)))
     (⊎-elim
     (λ w.
-    let s = step true true (sym (c .before .same-family .ensures) ∙ w .0 .taken) (sym (w .1 .ensures) ∙ not-false _ (w .2 .left)) (c .before .before .before .loop-test .taken) (omega arith) in
+    let s =
+    step true true (sym (c .before .same-family .ensures) ∙ w .0 .taken) (sym (w .1 .ensures) ∙ not-false _ (w .2 .left))
+    (c .before .before .before .loop-test .taken) (omega arith) in
     (omega arith, omega (arith, w .3), omega (arith, w .3, s, l .inv .2)))
     (λ w.
     let s = step false _ (sym (c .before .same-family .ensures) ∙ w .0 .left) refl (c .before .before .before .loop-test .taken) (omega arith) in

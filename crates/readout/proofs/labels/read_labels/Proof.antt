@@ -19,7 +19,8 @@ cut-requires c κs = search needs
 returns : tie.Need-returns
 returns c =
     let a = c .before .before .args in
-    let due : length (take (a .count) (a .labels)) ≡ c .before .cut .result = cut-length (a .count) (c .before .cut .result) microsMost (a .labels) (c .before .cut .ensures) (omega arith) in
+    let due : length (take (a .count) (a .labels)) ≡ c .before .cut .result =
+    cut-length (a .count) (c .before .cut .result) microsMost (a .labels) (c .before .cut .ensures) (omega arith) in
     labels-short (take (a .count) (a .labels)) (a .out .now) (omega arith)
 
 write-labels-requires : tie.Need-write-labels-requires
@@ -32,9 +33,11 @@ returns-2 : tie.Need-returns-2
 returns-2 c =
     let a = c .before .before .before .before .before .args in
     let end = c .before .before .before .before .cut .result in
-    let due : length (take (a .count) (a .labels)) ≡ end = cut-length (a .count) end microsMost (a .labels) (c .before .before .before .before .cut .ensures) (omega arith) in
+    let due : length (take (a .count) (a .labels)) ≡ end =
+    cut-length (a .count) end microsMost (a .labels) (c .before .before .before .before .cut .ensures) (omega arith) in
     labels-written (take (a .count) (a .labels)) (a .out .now) (omega arith) _
-    (c .before .write-labels .ensures ∙ ap (λ (l : List ℤ). written l (a .out .now)) (cut-take end (a .count) microsMost (a .labels) (c .before .before .before .before .cut .ensures) (omega arith)))
+    (c .before .write-labels .ensures ∙ ap (λ (l : List ℤ). written l (a .out .now))
+    (cut-take end (a .count) microsMost (a .labels) (c .before .before .before .before .cut .ensures) (omega arith)))
 
 pub read-labels-spec : {M : Type 1} → statement M
 read-labels-spec =

@@ -40,7 +40,9 @@ returns c =
     let a = s .args in
     let l = c .before .before .before .before .loop in
     let label = toZ w64 (ofZ w64 (a .label)) in
-    let here : sameFamily label (getD (a .t1) (l .i) (pos 0)) ≡ true = ap (sameFamily label) (sym (toZ-ofZ (sfits-of {w = w64} (c .before .before .same-family-arg .given)))) ∙ sym (c .before .same-family .ensures) ∙ c .if1 .taken in
+    let here : sameFamily label (getD (a .t1) (l .i) (pos 0)) ≡ true =
+    ap (sameFamily label) (sym (toZ-ofZ (sfits-of {w = w64} (c .before .before .same-family-arg .given)))) ∙ sym (c .before .same-family .ensures)
+    ∙ c .if1 .taken in
     sym (any-here (a .«end») (l .i) (a .t1) (sameFamily label) (c .before .before .before .loop-test .taken) (omega arith) here) ∙ l .inv
     ∙ ap (λ (z : ℤ). any (sameFamily z) (rest (a .«end») (a .start) (a .t1))) (toZ-ofZ (s .fits .label))
 
@@ -56,14 +58,17 @@ loop-again c =
     let a = s .args in
     let l = c .before .before .before .before .loop in
     let label = toZ w64 (ofZ w64 (a .label)) in
-    let here : sameFamily label (getD (a .t1) (l .i) (pos 0)) ≡ false = ap (sameFamily label) (sym (toZ-ofZ (sfits-of {w = w64} (c .before .before .same-family-arg .given)))) ∙ sym (c .before .same-family .ensures) ∙ c .if1 .left in
+    let here : sameFamily label (getD (a .t1) (l .i) (pos 0)) ≡ false =
+    ap (sameFamily label) (sym (toZ-ofZ (sfits-of {w = w64} (c .before .before .same-family-arg .given)))) ∙ sym (c .before .same-family .ensures)
+    ∙ c .if1 .left in
     any-next (a .«end») (l .i) (a .t1) (sameFamily label) (c .before .before .before .loop-test .taken) (omega arith) here ∙ l .inv
 
 returns-2 : tie.Need-returns-2 Inv-loop μ-loop
 returns-2 c =
     let a = c .before .before .args in
     let l = c .before .loop in
-    sym (any-end (a .«end») (l .i) (a .t1) (sameFamily (toZ w64 (ofZ w64 (a .label)))) (omega arith)) ∙ l .inv ∙ ap (λ (z : ℤ). any (sameFamily z) (rest (a .«end») (a .start) (a .t1))) (toZ-ofZ (c .before .before .fits .label))
+    sym (any-end (a .«end») (l .i) (a .t1) (sameFamily (toZ w64 (ofZ w64 (a .label)))) (omega arith)) ∙ l .inv
+    ∙ ap (λ (z : ℤ). any (sameFamily z) (rest (a .«end») (a .start) (a .t1))) (toZ-ofZ (c .before .before .fits .label))
 
 pub stands-from-spec : {M : Type 1} → statement M
 stands-from-spec =

@@ -35,7 +35,8 @@ slice-set-from-out c =
     let s = c .before .before .before in
     let a = s .args in
     let l = c .before .before .loop in
-    copy-place (take (a .«end») (a .t1)) (a .out .now) (l .out) (a .«end») (length-take-le (a .«end») (a .t1) (omega arith)) (s .pre .1) (l .i) (l .inv .1) (c .before .loop-test .taken)
+    copy-place (take (a .«end») (a .t1)) (a .out .now) (l .out) (a .«end») (length-take-le (a .«end») (a .t1) (omega arith)) (s .pre .1) (l .i)
+    (l .inv .1) (c .before .loop-test .taken)
 
 add-i : tie.Need-add-i Inv-loop μ-loop
 add-i c = search needs
@@ -50,7 +51,8 @@ loop-again c =
     let l = c .before .before .loop in
     let k = c .before .loop-test .taken in (
       omega arith,
-      copy-step (take (a .«end») (a .t1)) (a .out .now) (l .out) (a .«end») (length-take-le (a .«end») (a .t1) (omega arith)) (s .pre .1) (l .i) (l .inv .1) _ (pos 0)
+      copy-step (take (a .«end») (a .t1)) (a .out .now) (l .out) (a .«end») (length-take-le (a .«end») (a .t1) (omega arith)) (s .pre .1) (l .i)
+          (l .inv .1) _ (pos 0)
           (toZ-ofZ (sfits-of {w = w64} (c .out .given)) ∙ sym (getD-take (a .«end») (a .t1) (l .i) (pos 0) k)) k,
     )
 
@@ -59,14 +61,16 @@ same-length c =
     let s = c .before .before in
     let a = s .args in
     let l = c .before .loop in
-    copy-length (take (a .«end») (a .t1)) (a .out .now) (l .out) (a .«end») (length-take-le (a .«end») (a .t1) (omega arith)) (s .pre .1) (l .i) (l .inv .1) (l .inv .0)
+    copy-length (take (a .«end») (a .t1)) (a .out .now) (l .out) (a .«end») (length-take-le (a .«end») (a .t1) (omega arith)) (s .pre .1) (l .i)
+    (l .inv .1) (l .inv .0)
 
 returns : tie.Need-returns Inv-loop μ-loop
 returns c =
     let s = c .before .before in
     let a = s .args in
     let l = c .before .loop in
-    copy-end (take (a .«end») (a .t1)) (a .out .now) (l .out) (a .«end») (length-take-le (a .«end») (a .t1) (omega arith)) (s .pre .1) (l .i) (l .inv .1) (omega arith)
+    copy-end (take (a .«end») (a .t1)) (a .out .now) (l .out) (a .«end») (length-take-le (a .«end») (a .t1) (omega arith)) (s .pre .1) (l .i)
+    (l .inv .1) (omega arith)
 
 pub write-labels-spec : {M : Type 1} → statement M
 write-labels-spec =

@@ -11,10 +11,18 @@ use Rattle.readout.proofs.stats.statistics.Tie as tie
 
 counted :
     (c : tie.After-cut2) →
-    Counted (c .before .before .before .before .before .args .features) (c .before .before .before .before .before .args .t2) (c .before .before .before .before .before .args .n) (c .before .cut .result) (c .before .before .before .before .before .args .dim) (c .cut2 .result)
+    Counted (c .before .before .before .before .before .args .features) (c .before .before .before .before .before .args .t2)
+    (c .before .before .before .before .before .args .n) (c .before .cut .result) (c .before .before .before .before .before .args .dim) (c .cut2 .result)
 counted c =
     let s = c .before .before .before .before .before in
-    record { end-is = c .before .cut .ensures; w-is = c .cut2 .ensures; wide = means-wide (s .args .features) _ (s .good .0 .1 .1); features-long = omega arith; weights-long = omega arith }
+    record {
+      end-is = c .before .cut .ensures;
+      w-is = c .cut2 .ensures;
+      wide = means-wide (s .args .features) _
+          (s .good .0 .1 .1);
+      features-long = omega arith;
+      weights-long = omega arith;
+    }
 
 cut-requires : tie.Need-cut-requires
 cut-requires c κs = search needs
@@ -38,7 +46,8 @@ returns-2 c =
 returns-3 : tie.Need-returns-3
 returns-3 c =
     let a = c .before .before .before .before .before .before .before .before .args in
-    short-radii (counted (c .before .before .before)) (a .centres .now) (a .out-weights .now) (a .radii .now) (c .before .before .if1 .left) (c .before .if2 .left) (c .if3 .taken)
+    short-radii (counted (c .before .before .before)) (a .centres .now) (a .out-weights .now) (a .radii .now) (c .before .before .if1 .left)
+    (c .before .if2 .left) (c .if3 .taken)
 
 write-centres-requires : tie.Need-write-centres-requires
 write-centres-requires c κs = search needs
@@ -54,7 +63,8 @@ slice-aggregate-write c =
 write-requires : tie.Need-write-requires
 write-requires c κs =
     let a = c .before .before .before .before .before .before .before .before .before .before .before .before .before .before .args in
-    let q : length (take (c .before .before .before .before .before .before .before .before .before .before .cut .result) (a .t2)) ≡ c .before .before .before .before .before .before .before .before .before .before .cut .result = length-take-le (c .before .before .before .before .before .before .before .before .before .before .cut .result) (a .t2) (omega arith) in
+    let q : length (take (c .before .before .before .before .before .before .before .before .before .before .cut .result) (a .t2)) ≡ c .before .before .before .before .before .before .before .before .before .before .cut .result =
+    length-take-le (c .before .before .before .before .before .before .before .before .before .before .cut .result) (a .t2) (omega arith) in
     omega arith
 
 write-radii-requires : tie.Need-write-radii-requires
@@ -71,7 +81,8 @@ same-length-3 c = search needs
 
 returns-4 : tie.Need-returns-4
 returns-4 c =
-    let a = c .before .before .before .before .before .before .before .before .before .before .before .before .before .before .before .before .before .before .before .before .before .args in
+    let a =
+    c .before .before .before .before .before .before .before .before .before .before .before .before .before .before .before .before .before .before .before .before .before .args in
     all-written (counted (c .before .before .before .before .before .before .before .before .before .before .before .before .before .before .before .before)) (a .centres .now) (a .out-weights .now) (a .radii .now) (c .before .before .before .before .before .before .before .before .before .before .before .before .before .before .before .if1 .left) (c .before .before .before .before .before .before .before .before .before .before .before .before .before .before .if2 .left) (c .before .before .before .before .before .before .before .before .before .before .before .before .before .if3 .left) _ _ _ (c .before .before .before .before .before .before .before .before .before .before .before .write-centres .ensures) (c .before .before .before .before .before .before .write .ensures) (c .before .before .write-radii .ensures)
 
 pub statistics-spec : {M : Type 1} → statement M

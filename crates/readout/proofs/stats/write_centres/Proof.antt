@@ -3,7 +3,8 @@ use Prim.Native.Nat.{_*_, _-_, _≤_}
 use mathlib.Core.Path.{_≡_, sym}
 use native.Mathlib.Omega.{arith}
 use borrow.Author.Needs.{needs}
-use Rattle.readout.proofs.Centres.{Turn, mean-fits, means-wide, mean-room, mean-count, centresDue, few, turn-start, turn-length, turn-room, turn-step, turn-end}
+use Rattle.readout.proofs.Centres.{Turn, mean-fits, means-wide, mean-room, mean-count, centresDue, few, turn-start, turn-length, turn-room}
+use Rattle.readout.proofs.Centres.{turn-step, turn-end}
 use Rattle.readout.proofs.Copies.{partly}
 use Rattle.readout.proofs.stats.write_centres.Statement.{statement}
 use Rattle.readout.proofs.stats.write_centres.Tie as tie
@@ -16,7 +17,8 @@ abbrev μ-loop : tie.MeasureT-loop
 
 turn :
     (c : tie.At-loop Inv-loop μ-loop) →
-    Turn (c .before .before .args .width) (c .before .before .args .«end») (c .before .before .args .t1) (c .before .before .args .out .now) (c .loop .out) (c .loop .i)
+    Turn (c .before .before .args .width) (c .before .before .args .«end») (c .before .before .args .t1) (c .before .before .args .out .now)
+    (c .loop .out) (c .loop .i)
 turn c =
     let s = c .before .before in
     record { wide = means-wide (s .args .t1) _ (s .good .0 .1 .1); low = omega arith; long = omega arith; room = s .pre .2; done = c .loop .inv .1 }
@@ -42,7 +44,8 @@ slice-aggregate-write : tie.Need-slice-aggregate-write Inv-loop μ-loop
 slice-aggregate-write c = sym (mean-count (turn (c .before .before .before .before)) (c .before .before .before .loop-test .taken) _)
 
 mul-write : tie.Need-mul-write Inv-loop μ-loop
-mul-write c = omega (arith, few (c .before .before .before .before .loop .i) (c .before .before .before .before .before .before .args .width) (omega arith) (omega arith))
+mul-write c =
+    omega (arith, few (c .before .before .before .before .loop .i) (c .before .before .before .before .before .before .args .width) (omega arith) (omega arith))
 
 sub-write : tie.Need-sub-write Inv-loop μ-loop
 sub-write c = omega (arith, turn-room (turn (c .before .before .before .before)) (c .before .before .before .loop-test .taken))
@@ -63,7 +66,11 @@ loop-less : tie.Need-loop-less Inv-loop μ-loop
 loop-less c = search needs
 
 loop-again : tie.Need-loop-again Inv-loop μ-loop
-loop-again c = (omega arith, turn-step (turn (c .before .before .before .before .before .before .before .before)) (c .before .before .before .before .before .before .before .loop-test .taken) _ _ (c .before .before .write .ensures))
+loop-again c = (
+  omega arith,
+  turn-step (turn (c .before .before .before .before .before .before .before .before))
+      (c .before .before .before .before .before .before .before .loop-test .taken) _ _ (c .before .before .write .ensures),
+)
 
 same-length : tie.Need-same-length Inv-loop μ-loop
 same-length c = turn-length (turn (c .before)) (c .before .loop .inv .0)

@@ -37,7 +37,8 @@ slice-write-out c =
     let s = c .before .before .before .before .before in
     let a = s .args in
     let l = c .before .before .before .loop in
-    copy-place (map radiusOf (take (a .«end») (a .t1))) (a .out .now) (l .out) (a .«end») (radii-length (a .«end») (a .t1) (omega arith)) (s .pre .1) (l .i) (l .inv .1) (c .before .before .loop-test .taken)
+    copy-place (map radiusOf (take (a .«end») (a .t1))) (a .out .now) (l .out) (a .«end») (radii-length (a .«end») (a .t1) (omega arith)) (s .pre .1)
+    (l .i) (l .inv .1) (c .before .before .loop-test .taken)
 
 add-i : tie.Need-add-i Inv-loop μ-loop
 add-i c = search needs
@@ -52,7 +53,8 @@ loop-again c =
     let l = c .before .before .before .loop in
     let k = c .before .before .loop-test .taken in (
       omega arith,
-      copy-step (map radiusOf (take (a .«end») (a .t1))) (a .out .now) (l .out) (a .«end») (radii-length (a .«end») (a .t1) (omega arith)) (s .pre .1) (l .i) (l .inv .1) (c .radius .result) _
+      copy-step (map radiusOf (take (a .«end») (a .t1))) (a .out .now) (l .out) (a .«end») (radii-length (a .«end») (a .t1) (omega arith))
+          (s .pre .1) (l .i) (l .inv .1) (c .radius .result) _
           (c .radius .ensures ∙ radius-at (a .«end») (a .t1) (l .i) _ k) k,
     )
 
@@ -61,14 +63,16 @@ same-length c =
     let s = c .before .before .before in
     let a = s .args in
     let l = c .before .loop in
-    copy-length (map radiusOf (take (a .«end») (a .t1))) (a .out .now) (l .out) (a .«end») (radii-length (a .«end») (a .t1) (omega arith)) (s .pre .1) (l .i) (l .inv .1) (l .inv .0)
+    copy-length (map radiusOf (take (a .«end») (a .t1))) (a .out .now) (l .out) (a .«end») (radii-length (a .«end») (a .t1) (omega arith))
+    (s .pre .1) (l .i) (l .inv .1) (l .inv .0)
 
 returns : tie.Need-returns Inv-loop μ-loop
 returns c =
     let s = c .before .before .before in
     let a = s .args in
     let l = c .before .loop in
-    copy-end (map radiusOf (take (a .«end») (a .t1))) (a .out .now) (l .out) (a .«end») (radii-length (a .«end») (a .t1) (omega arith)) (s .pre .1) (l .i) (l .inv .1) (omega arith)
+    copy-end (map radiusOf (take (a .«end») (a .t1))) (a .out .now) (l .out) (a .«end») (radii-length (a .«end») (a .t1) (omega arith)) (s .pre .1)
+    (l .i) (l .inv .1) (omega arith)
 
 pub write-radii-spec : {M : Type 1} → statement M
 write-radii-spec =

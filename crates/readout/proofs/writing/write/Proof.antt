@@ -44,8 +44,11 @@ loop-again : tie.Need-loop-again Inv-loop μ-loop
 loop-again c =
     let s = c .before .before .before in
     let a = s .args in
-    let l = c .before .before .loop in
-    (omega arith, copy-step (a .from .now) (a .out .now) (l .out) (length (a .from .now)) refl (s .pre) (l .i) (l .inv .1) _ nan refl (c .before .loop-test .taken))
+    let l = c .before .before .loop in (
+      omega arith,
+      copy-step (a .from .now) (a .out .now) (l .out) (length (a .from .now)) refl (s .pre) (l .i) (l .inv .1) _ nan refl
+          (c .before .loop-test .taken),
+    )
 
 same-length : tie.Need-same-length Inv-loop μ-loop
 same-length c =

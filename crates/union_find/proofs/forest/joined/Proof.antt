@@ -55,8 +55,10 @@ loop-again : tie.Need-loop-again Inv-loop μ-loop
 loop-again c =
     let a = c .before .before .before .before .before .before .before .before .before in
     let l = c .before .before .before .before .loop in
-    let h : l .k < length (a .args .a .now) = omega (arith, c .before .before .before .before .before .before .cut .ensures, c .before .before .before .loop-test .taken) in
-    let g : l .k < length (a .args .b .now) = omega (arith, c .before .before .before .before .before .before .cut .ensures, c .before .before .before .loop-test .taken) in (
+    let h : l .k < length (a .args .a .now) =
+    omega (arith, c .before .before .before .before .before .before .cut .ensures, c .before .before .before .loop-test .taken) in
+    let g : l .k < length (a .args .b .now) = omega
+    (arith, c .before .before .before .before .before .before .cut .ensures, c .before .before .before .loop-test .taken) in (
       subst Sound (sym (c .join .ensures)) (join-sound (a .args .n) (l .uf) _ (a .pre) (l .inv .0)),
       ap (λ (u : UnionFind). joinAll (a .args .n) u (drop (l .k + 1) (pairsOf (a .args .a .now) (a .args .b .now)))) (c .join .ensures)
           ∙ join-step (a .args .n) (a .args .a .now) (a .args .b .now) (l .k) (l .uf) h g

@@ -43,7 +43,8 @@ loop-less c = search needs
 loop-again : tie.Need-loop-again Inv-loop μ-loop
 loop-again c =
     let l = c .before .before .before .loop in
-    seek-next (c .before .before .before .before .before .joined .result .parent) (l .parent) (l .roots) (l .i) (l .inv) (omega arith) (c .find .result) (c .find .last .0) (c .find .ensures .0) (c .find .ensures .1)
+    seek-next (c .before .before .before .before .before .joined .result .parent) (l .parent) (l .roots) (l .i) (l .inv) (omega arith)
+    (c .find .result) (c .find .last .0) (c .find .ensures .0) (c .find .ensures .1)
 
 returns : tie.Need-returns Inv-loop μ-loop
 returns c =
@@ -51,7 +52,8 @@ returns c =
     let l = c .before .loop in
     let u = c .before .before .before .joined .result in
     let e : l .i ≡ 64 = omega arith in
-    seek-end (a .n) (c .before .before .before .before .cut .result) (c .before .before .before .before .cut .ensures) (pairsOf (a .a .now) (a .b .now)) u (c .before .before .before .joined .ensures) (l .parent) (l .roots)
+    seek-end (a .n) (c .before .before .before .before .cut .result) (c .before .before .before .before .cut .ensures)
+    (pairsOf (a .a .now) (a .b .now)) u (c .before .before .before .joined .ensures) (l .parent) (l .roots)
     (subst (Seeking (u .parent) (l .parent) (l .roots)) e (l .inv))
 
 pub roots-spec : {M : Type 1} → statement M

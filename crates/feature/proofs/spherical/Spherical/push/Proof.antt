@@ -28,8 +28,15 @@ cut-requires c κs = search needs
 loop-holds : tie.Need-loop-holds Inv-loop μ-loop
 loop-holds c =
     let a = c .before .args in
-    let e = cut-start (c .cut .result) (a .dim) 15 (a .t2) (c .cut .ensures) (omega arith) in
-    (search needs, sym (length-map (a .t1 .mean) _) ∙ c .before .good .0 .1 .1 .1 .0 .1 .0 .1, refl, refl, ap (moved _ (a .t1 .mean)) e, ap (λ (l : List Float). sqDist l (a .t1 .mean)) e)
+    let e = cut-start (c .cut .result) (a .dim) 15 (a .t2) (c .cut .ensures) (omega arith) in (
+      search needs,
+      sym (length-map (a .t1 .mean) _)
+          ∙ c .before .good .0 .1 .1 .1 .0 .1 .0 .1,
+      refl,
+      refl,
+      ap (moved _ (a .t1 .mean)) e,
+      ap (λ (l : List Float). sqDist l (a .t1 .mean)) e,
+    )
 
 mul-m : tie.Need-mul-m Inv-loop μ-loop
 mul-m c = search needs

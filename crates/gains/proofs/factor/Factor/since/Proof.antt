@@ -20,7 +20,8 @@ new-requires c κs = search needs
 returns-2 : tie.Need-returns-2
 returns-2 c =
     let a = c .before .before .before .args in
-    c .new .ensures ∙ sym (ap (λ (b : Bool). cond b (a .self) (factorOf (a .lambda) (a .t) (a .last))) (sym (c .before .before .«is-same» .ensures) ∙ c .before .if1 .left))
+    c .new .ensures ∙ sym (ap (λ (b : Bool). cond b (a .self) (factorOf (a .lambda) (a .t) (a .last)))
+    (sym (c .before .before .«is-same» .ensures) ∙ c .before .if1 .left))
 
 pub since-spec : {M : Type 1} → statement M
 since-spec = tie.close (tie.spec is-same-requires returns new-requires returns-2)

@@ -15,7 +15,12 @@ gained-requires c κs = search needs
 returns : tie.Need-returns
 returns c =
     let a = c .before .before .before .before .before .before .before .before .args in
-    sym (rw (lt-ltb _ _ (c .before .before .before .before .if1 .taken), ← (c .before .before .gained .ensures ∙ gain-by (a .lambda) (a .t) (c .before .before .before .fade .result) (a .self .walk .key) (c .before .before .before .fade .ensures .0))))
+    sym (rw (
+      lt-ltb _ _ (c .before .before .before .before .if1 .taken),
+      ←
+          (c .before .before .gained .ensures ∙ gain-by (a .lambda) (a .t) (c .before .before .before .fade .result) (a .self .walk .key)
+          (c .before .before .before .fade .ensures .0)),
+    ))
 
 returns-2 : tie.Need-returns-2
 returns-2 c = sym (rw (le-ltb _ _ (c .if1 .left)))

@@ -23,7 +23,9 @@ add-walk c = search needs
 returns-2 : tie.Need-returns-2
 returns-2 c =
     let a = c .before .before .before .before .before .before .before .before .before .before .before .args in
-    passed-turn (a .lambda) (a .t) (a .self) (a .l) (c .before .before .before .before .before .before .before .before .before .before .if1 .left) (c .before .before .before .before .before .if2 .taken) (sym (c .before .before .before .before .«is-before» .ensures) ∙ c .before .before .before .if3 .taken)
+    passed-turn (a .lambda) (a .t) (a .self) (a .l) (c .before .before .before .before .before .before .before .before .before .before .if1 .left)
+    (c .before .before .before .before .before .if2 .taken)
+    (sym (c .before .before .before .before .«is-before» .ensures) ∙ c .before .before .before .if3 .taken)
 
 same-ends-requires : tie.Need-same-ends-requires
 same-ends-requires c κs = search needs
@@ -37,7 +39,14 @@ gained-requires c κs = search needs
 returns-3 : tie.Need-returns-3
 returns-3 c =
     let a = c .before .before .before .before .before .before .before .before .before .before .before .before .before .before .before .args in
-    gained-turn (a .lambda) (a .t) (a .self) (a .l) (c .before .before .before .before .before .before .before .before .before .before .before .before .before .before .if1 .left) (c .before .before .before .since .result) (c .before .before .gained .result) (c .before .before .before .before .before .before .before .before .before .if2 .taken) (sym (c .before .before .before .before .before .before .before .before .«is-before» .ensures) ∙ c .before .before .before .before .before .before .before .if3 .left) (sym (c .before .before .before .before .before .before .«same-ends» .ensures) ∙ c .before .before .before .before .before .if4 .taken) (c .before .before .before .since .ensures) (c .before .before .gained .ensures)
+    gained-turn (a .lambda) (a .t) (a .self) (a .l)
+    (c .before .before .before .before .before .before .before .before .before .before .before .before .before .before .if1 .left)
+    (c .before .before .before .since .result) (c .before .before .gained .result)
+    (c .before .before .before .before .before .before .before .before .before .if2 .taken)
+    (sym (c .before .before .before .before .before .before .before .before .«is-before» .ensures)
+    ∙ c .before .before .before .before .before .before .before .if3 .left)
+    (sym (c .before .before .before .before .before .before .«same-ends» .ensures) ∙ c .before .before .before .before .before .if4 .taken)
+    (c .before .before .before .since .ensures) (c .before .before .gained .ensures)
 
 inserted-requires : tie.Need-inserted-requires
 inserted-requires c κs = search needs
@@ -46,7 +55,8 @@ returns-4 : tie.Need-returns-4
 returns-4 c =
     let a = c .before .before .before .before .before .before .before .args in
     inserted-turn (a .lambda) (a .t) (a .self) (a .l) (c .before .before .before .before .before .before .if1 .left) (c .inserted .result)
-    (⊎-elim (λ w. inr (w .0 .taken, sym (w .1 .ensures) ∙ w .2 .left, sym (w .3 .ensures) ∙ w .4 .left)) (λ w. inl (w .left)) (c .before .if2 .came)) (c .inserted .ensures)
+    (⊎-elim (λ w. inr (w .0 .taken, sym (w .1 .ensures) ∙ w .2 .left, sym (w .3 .ensures) ∙ w .4 .left)) (λ w. inl (w .left)) (c .before .if2 .came))
+    (c .inserted .ensures)
 
 pub turn-spec : {M : Type 1} → statement M
 turn-spec =

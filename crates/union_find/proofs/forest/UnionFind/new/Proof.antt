@@ -36,14 +36,20 @@ loop-again : tie.Need-loop-again Inv-loop μ-loop
 loop-again c =
     let p = c .before .loop .parent in
     let i = c .before .loop .i in
-    let v = c .before .loop .inv in
-    (length-set p i i ∙ v .0, omega arith, below-more _ _ (λ k h. getD-set-other p i k i 0 (λ (e : k ≡ i). omega arith) ∙ v .2 k h) (getD-set-same p i i 0 (omega arith)))
+    let v = c .before .loop .inv in (
+      length-set p i i ∙ v .0,
+      omega arith,
+      below-more _ _ (λ k h. getD-set-other p i k i 0 (λ (e : k ≡ i). omega arith) ∙ v .2 k h)
+          (getD-set-same p i i 0 (omega arith)),
+    )
 
 returns : tie.Need-returns Inv-loop μ-loop
 unfolding newOf
 returns c =
     let v = c .before .loop .inv in
-    let e = ext-getD 0 (c .before .loop .parent) (table 64 (λ (i : ℕ). i)) (v .0 ∙ sym (table-length 64 (λ i. i))) (λ k h. v .2 k (omega arith) ∙ sym (table-at 64 (λ i. i) 0 k (omega arith))) in
+    let e =
+    ext-getD 0 (c .before .loop .parent) (table 64 (λ (i : ℕ). i)) (v .0 ∙ sym (table-length 64 (λ i. i)))
+    (λ k h. v .2 k (omega arith) ∙ sym (table-at 64 (λ i. i) 0 k (omega arith))) in
     ap (λ (p : List ℕ). record { parent = p; rank = replicate 64 0 }) e
 
 pub new-spec : {M : Type 1} → statement M

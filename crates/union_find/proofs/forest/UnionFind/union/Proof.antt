@@ -10,15 +10,22 @@ find-requires c κs = ((c .before .args .t1 .rank, c .before .pre .0), c .before
 find-requires-2 : tie.Need-find-requires-2
 find-requires-2 c κs =
     let a = c .before .before .before in
-    let f = c .before .find in
-    ((a .args .t1 .rank, found-well (a .args .t1 .parent) (a .args .t1 .rank) (a .pre .0) (a .args .a) (a .pre .1) (f .result) (f .last .0) (f .ensures .0) (f .ensures .1)), a .pre .2)
+    let f = c .before .find in (
+      (
+        a .args .t1 .rank,
+        found-well (a .args .t1 .parent) (a .args .t1 .rank) (a .pre .0) (a .args .a) (a .pre .1) (f .result) (f .last .0)
+            (f .ensures .0) (f .ensures .1),
+      ),
+      a .pre .2,
+    )
 
 link-requires : tie.Need-link-requires
 link-requires c κs =
     let a = c .before .before .before .before in
     let f = c .before .before .find in
     let g = c .find2 in
-    let w = found-well (a .args .t1 .parent) (a .args .t1 .rank) (a .pre .0) (a .args .a) (a .pre .1) (f .result) (f .last .0) (f .ensures .0) (f .ensures .1) in (
+    let w = found-well (a .args .t1 .parent) (a .args .t1 .rank) (a .pre .0) (a .args .a) (a .pre .1) (f .result) (f .last .0) (f .ensures .0)
+    (f .ensures .1) in (
       found-well (f .last .0) (a .args .t1 .rank) w (a .args .b) (a .pre .2) (g .result) (g .last .0) (g .ensures .0) (g .ensures .1),
       found-low (a .args .t1 .parent) (a .args .t1 .rank) (a .pre .0) (a .args .a) (a .pre .1) (f .result) (f .last .0) (f .ensures .0) (f .ensures .1),
       found-low (f .last .0) (a .args .t1 .rank) w (a .args .b) (a .pre .2) (g .result) (g .last .0) (g .ensures .0) (g .ensures .1),
@@ -29,7 +36,8 @@ returns c =
     let a = c .before .before .before .before .before .args in
     let f = c .before .before .before .find in
     let g = c .before .find2 in
-    c .link .ensures ∙ unioned (a .t1) (a .a) (a .b) (f .result) (g .result) (f .last .0) (g .last .0) (f .ensures .0) (f .ensures .1) (g .ensures .0) (g .ensures .1)
+    c .link .ensures ∙ unioned (a .t1) (a .a) (a .b) (f .result) (g .result) (f .last .0) (g .last .0) (f .ensures .0) (f .ensures .1)
+    (g .ensures .0) (g .ensures .1)
 
 pub union-spec : {M : Type 1} → statement M
 union-spec = tie.close (tie.spec find-requires find-requires-2 link-requires returns)
