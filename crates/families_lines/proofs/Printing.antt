@@ -1,15 +1,21 @@
--- Lines put one after another. Assumes nothing.
-use Prim.Native.Nat.{ℕ, zero, suc, _+_, _≤_, _<_}
-use mathlib.Core.Path.{_≡_, refl, sym, ap, _∙_, subst}
+-- Lines one after another, and how long they are. Assumes nothing.
+use Prim.Native.Nat.{ℕ, zero, suc, _+_, _*_, _^_, _≤_, _<_}
+use mathlib.Core.Path.{_≡_, sym, ap, _∙_}
 use mathlib.Core.List.{List, [], _∷_, _++_, append-nil, append-assoc}
 use native.Mathlib.Numerals.{add-one}
 use native.Mathlib.Omega.{arith}
 use lib.IntN.{ℤ}
-use lib.ListN.{length, take, getD}
+use lib.ListN.{length, take, getD, length-append}
+use lib.Signed.{mag}
+use Rattle.drift.specs.declared.DriftReport.{DriftReport}
 use Rattle.model.specs.declared.micro.MicroId.{MicroId}
-use Rattle.families_lines.specs.Put.{Put}
-use Rattle.families_lines.specs.Text.{lineOf, linesOf}
-use Rattle.families_lines.proofs.Putting.{put-both}
+use Rattle.text.specs.declared.text.Text.{Text}
+use Rattle.text.specs.Ascii.{ascii}
+use Rattle.text.specs.Decimal.{decimal, integer}
+use Rattle.text.specs.Text.{room, Added}
+use Rattle.text.specs.Laws.{nothing, both, worded}
+use Rattle.text.specs.Sizes.{number-within, integer-within}
+use Rattle.families_lines.specs.Lines.{lineOf, linesOf, lastLine}
 
 lines-suc : (i : ℕ) (ids : List MicroId) (labels : List ℤ) (d : MicroId) (z : ℤ) → i < length ids → i < length labels → linesOf (take i ids) (take i labels) ++ lineOf (getD ids i d) (getD labels i z) ≡ linesOf (take (suc i) ids) (take (suc i) labels)
 unfolding linesOf
@@ -20,16 +26,50 @@ lines-suc (suc i) (id ∷ ids) (label ∷ labels) d z h k =
     append-assoc (lineOf id label) (linesOf (take i ids) (take i labels)) (lineOf (getD ids i d) (getD labels i z))
     ∙ ap (λ (t : List ℕ). lineOf id label ++ t) (lines-suc i ids labels d z (omega arith) (omega arith))
 
--- one more line
-pub lines-more :
-    {before after last : List ℕ} {at next : ℕ} {label : ℤ} (i : ℕ) (ids : List MicroId) (labels : List ℤ) (d : MicroId) (z : ℤ) → i < length ids → i < length labels →
-    at ≤ length before → Put before 0 (linesOf (take i ids) (take i labels)) at after → Put after at (lineOf (getD ids i d) label) next last → label ≡ getD labels i z →
-    Put before 0 (linesOf (take (i + 1) ids) (take (i + 1) labels)) next last
-lines-more {before} {after} {last} {at} {next} i ids labels d z h k room p q e =
-    subst (λ (text : List ℕ). Put before 0 text next last)
-    (ap (λ (l : ℤ). linesOf (take i ids) (take i labels) ++ lineOf (getD ids i d) l) e ∙ lines-suc i ids labels d z h k ∙ ap (λ (n : ℕ). linesOf (take n ids) (take n labels)) (sym (add-one i)))
-    (put-both p room q)
+-- i lines are added
+pub record Lined (t : Text) (ids : List MicroId) (labels : List ℤ) (i : ℕ) (u : Text) : Type 0 where
+  pub added : Added t (linesOf (take i ids) (take i labels)) u
+  pub within : length (linesOf (take i ids) (take i labels)) ≤ 43 * i
 
-pub no-lines : (lent : List ℕ) (labels : List ℤ) → Put lent 0 (linesOf [] labels) 0 lent
+pub no-lines : (t : Text) (ids : List MicroId) (labels : List ℤ) → length (t .bytes) ≡ room → Lined t ids labels 0 t
 unfolding linesOf
-no-lines lent labels = record { place = refl; text = refl }
+no-lines t ids labels l = record { added = nothing t l; within = omega arith }
+
+pub lines-more :
+    {t u v : Text} {label : ℤ} (i : ℕ) (ids : List MicroId) (labels : List ℤ) (d : MicroId) (z : ℤ) → i < length ids → i < length labels →
+    Lined t ids labels i u → Added u (lineOf (getD ids i d) label) v → length (lineOf (getD ids i d) label) ≤ 43 → label ≡ getD labels i z →
+    Lined t ids labels (i + 1) v
+lines-more {t} {u} {v} {label} i ids labels d z h k p q w e =
+    let line = lineOf (getD ids i d) label in
+    let s : linesOf (take i ids) (take i labels) ++ lineOf (getD ids i d) label ≡ linesOf (take (i + 1) ids) (take (i + 1) labels) =
+    ap (λ (l : ℤ). linesOf (take i ids) (take i labels) ++ lineOf (getD ids i d) l) e
+    ∙ lines-suc i ids labels d z h k
+    ∙ ap (λ (n : ℕ). linesOf (take n ids) (take n labels)) (sym (add-one i))
+    in
+    record {
+      added = worded s (both (p .added) q);
+      within = omega (arith, ap length s, length-append (linesOf (take i ids) (take i labels)) (lineOf (getD ids i d) label), p .within, w);
+    }
+
+pub line-within : (id : MicroId) (label : ℤ) → id .0 < 2 ^ 64 → mag label < 2 ^ 63 → length (lineOf id label) ≤ 43
+line-within id label h k =
+    omega (
+      arith,
+      length-append (decimal (id .0) ++ ascii " " ++ integer label) (ascii "\n"),
+      length-append (decimal (id .0) ++ ascii " ") (integer label),
+      length-append (decimal (id .0)) (ascii " "),
+      number-within (id .0) h,
+      integer-within label k,
+    )
+
+pub last-within : (report : DriftReport) → report .alarms < 2 ^ 64 → report .window < 2 ^ 64 → length (lastLine report) ≤ 56
+last-within report h k =
+    omega (
+      arith,
+      length-append (ascii "alarms " ++ decimal (report .alarms) ++ ascii " window " ++ decimal (report .window)) (ascii "\n"),
+      length-append (ascii "alarms " ++ decimal (report .alarms) ++ ascii " window ") (decimal (report .window)),
+      length-append (ascii "alarms " ++ decimal (report .alarms)) (ascii " window "),
+      length-append (ascii "alarms ") (decimal (report .alarms)),
+      number-within (report .alarms) h,
+      number-within (report .window) k,
+    )

@@ -1,4 +1,1 @@
-pub mod Ascii
-pub mod Put
-pub mod Text
-pub mod Lent
+pub mod Lines

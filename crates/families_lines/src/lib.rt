@@ -1,10 +1,57 @@
-// The text that `families` prints: numbers, lines, and all of it in a lent slice.
-mod lines;
-mod text;
+// The lines that `families` prints.
+use drift::DriftReport;
+use model::MICROS;
+use model::MicroId;
+use text::Text;
+use text::add;
+use text::add_number;
+ghost use Prim.Native.Nat.{_*_, _≤_};
+ghost use mathlib.Core.Path.{_≡_};
+ghost use mathlib.Core.List.{_++_};
+ghost use lib.ListN.{length, take};
+ghost use Rattle.text.specs.Text.{textOf, Added};
+ghost use Rattle.families_lines.specs.Lines.{lineOf, linesOf, lastLine};
 
-pub use lines::listing;
-pub use lines::refused;
-pub use text::ROOM;
-pub use text::Text;
-pub use text::Writing;
-pub use text::write;
+fn add_line(text: Text, id: MicroId, label: i64) -> Text
+    ensures { λ r. ⌜ Added text (lineOf id label) r ⌝ }
+    ensures { λ r. ⌜ length (lineOf id label) ≤ 43 ⌝ }
+{
+    let numbered = add_number(text, id.0);
+    let apart = add(numbered, b" ");
+    let labelled = text::add_integer(apart, label);
+    add(labelled, b"\n")
+}
+
+// The first n lines.
+fn add_lines(text: Text, ids: [MicroId; MICROS], labels: [i64; MICROS], n: usize) -> Text
+    requires { ⌜ n ≤ 64 ⌝ }
+    ensures { λ r. ⌜ Added text (linesOf (take n ids) (take n labels)) r ⌝ }
+    ensures { λ r. ⌜ length (linesOf (take n ids) (take n labels)) ≤ 43 * n ⌝ }
+{
+    let mut t = text;
+    let mut i: usize = 0;
+    while i < n {
+        t = add_line(t, ids[i], labels[i]);
+        i += 1;
+    }
+    t
+}
+
+fn add_last(text: Text, report: DriftReport) -> Text
+    ensures { λ r. ⌜ Added text (lastLine report) r ⌝ }
+    ensures { λ r. ⌜ length (lastLine report) ≤ 56 ⌝ }
+{
+    let rang = add(text, b"alarms ");
+    let counted = add_number(rang, report.alarms);
+    let wide = add(counted, b" window ");
+    let measured = add_number(wide, report.window as u64);
+    add(measured, b"\n")
+}
+
+// A line for each of the first n, and the last line.
+pub fn listing(ids: [MicroId; MICROS], labels: [i64; MICROS], n: usize, report: DriftReport) -> Text
+    ensures { λ r. ⌜ textOf r ≡ linesOf (take n ids) (take n labels) ++ lastLine report ⌝ }
+{
+    let lines = add_lines(text::blank(), ids, labels, lists::cut(n, MICROS));
+    add_last(lines, report)
+}

@@ -10,8 +10,8 @@ use Rattle.drift.specs.Monitor.{reportOf}
 use Rattle.model.specs.ReadOut.{Statistics}
 use Rattle.model.specs.DbState.{State}
 use Rattle.model.specs.Dbstream.{clusterOf, labelsReadOf, statisticsOf}
-use Rattle.families_lines.specs.Ascii.{ascii}
-use Rattle.families_lines.specs.Text.{refusedLine}
+use Rattle.text.specs.Ascii.{ascii}
+use Rattle.text.specs.Refusal.{refusedLine}
 use Rattle.families_session.specs.Session.{Ran, ranOf}
 use Rattle.picture_text.specs.Picture.{pageOf}
 

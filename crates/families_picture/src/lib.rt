@@ -1,15 +1,14 @@
 // What `picture` prints for the bytes of its input: the families in words and as a picture.
 use dbstream::DbStream;
-use families_lines::Text;
-use families_lines::Writing;
 use model::MICROS;
 use picture_text::CENTRES;
+use text::Text;
+use text::Writing;
 ghost use mathlib.Core.Path.{_≡_};
-ghost use mathlib.Core.List.{[]};
 ghost use lib.ListN.{take};
 ghost use Rattle.dbstream.specs.Stream.{view};
-ghost use Rattle.families_lines.specs.Lent.{textOf, writeTold, writeOf};
-ghost use Rattle.page.specs.Added.{room, Added};
+ghost use Rattle.text.specs.Text.{room, textOf};
+ghost use Rattle.text.specs.Lent.{writeTold, writeOf};
 ghost use Rattle.families_picture.specs.Picture.{drawnOf, pictureText};
 
 // The figures of a reading: rate, amplitude and beat error.
@@ -17,7 +16,7 @@ const FIGURES: usize = 3;
 
 // The stream, clustered, in words and as a picture.
 fn drawn(stream: DbStream) -> Text
-    ensures { λ r. ⌜ Added [] (drawnOf (view stream)) (textOf r) ⌝ }
+    ensures { λ r. ⌜ textOf r ≡ take room (drawnOf (view stream)) ⌝ }
 {
     let clustered = stream.cluster();
     let mut centres = [0.0; CENTRES];
@@ -28,21 +27,21 @@ fn drawn(stream: DbStream) -> Text
     db_reading::labels(clustered, &mut labels);
     let report = clustered.drift();
     let n = clustered.micro_count();
-    picture_text::drawn(page::blank(), centres, weights, labels, n, report.alarms)
+    picture_text::drawn(text::blank(), centres, weights, labels, n, report.alarms)
 }
 
 // A refusal is all that is printed; so is that another dim has no picture.
 fn text_of(input: &[u8]) -> Text
-    ensures { λ r. ⌜ Added [] (pictureText (now (input .entry))) (textOf r) ⌝ }
+    ensures { λ r. ⌜ textOf r ≡ take room (pictureText (now (input .entry))) ⌝ }
 {
     let session = families_session::session_of(input);
     let number = session.number;
     if number != 0 {
-        return families_lines::refused(number);
+        return text::refused(number);
     }
     let stream = session.stream;
     if stream.dim() != FIGURES {
-        return page::add(page::blank(), b"a picture needs dim 3\n");
+        return text::add(text::blank(), b"a picture needs dim 3\n");
     }
     drawn(stream)
 }

@@ -25,7 +25,7 @@ use Rattle.model.specs.DbInsert.{idOf}
 use Rattle.model.specs.DbCluster.{isStrong, strongOnes, joinsOf, labelsOf}
 use Rattle.model.specs.Dbstream.{clusterOf, labelsReadOf}
 use Rattle.readout.specs.Told.{labelsTold}
-use Rattle.families_lines.specs.Text.{linesOf, lastLine}
+use Rattle.families_lines.specs.Lines.{linesOf, lastLine}
 use Rattle.families_text.specs.Families.{clusterText}
 
 pub few-ids :

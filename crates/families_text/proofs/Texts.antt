@@ -6,7 +6,7 @@ use mathlib.Core.Bool.{Bool, cond}
 use mathlib.Core.List.{List}
 use borrow.Author.Tests.{eq-eqb, ne-eqb}
 use lib.Dec.{eqb}
-use Rattle.families_lines.specs.Text.{refusedLine}
+use Rattle.text.specs.Refusal.{refusedLine}
 use Rattle.families_session.specs.Session.{Ran, ranOf}
 use Rattle.families_text.specs.Families.{clusterText, familiesText}
 

@@ -8,7 +8,8 @@ use Rattle.model.specs.DbState.{State}
 use Rattle.model.specs.DbInsert.{idOf}
 use Rattle.model.specs.DbCluster.{labelsOf}
 use Rattle.model.specs.Dbstream.{clusterOf}
-use Rattle.families_lines.specs.Text.{linesOf, lastLine, refusedLine}
+use Rattle.text.specs.Refusal.{refusedLine}
+use Rattle.families_lines.specs.Lines.{linesOf, lastLine}
 use Rattle.families_session.specs.Session.{ranOf}
 
 -- "after cluster it prints one line per micro-cluster in list order .. then a last line"

@@ -1,11 +1,12 @@
 // What `families` prints for the bytes of its input.
 use dbstream::DbStream;
-use families_lines::Text;
-use families_lines::Writing;
 use model::MICROS;
+use text::Text;
+use text::Writing;
 ghost use mathlib.Core.Path.{_≡_};
 ghost use Rattle.dbstream.specs.Stream.{view};
-ghost use Rattle.families_lines.specs.Lent.{textOf, writeTold, writeOf};
+ghost use Rattle.text.specs.Text.{textOf};
+ghost use Rattle.text.specs.Lent.{writeTold, writeOf};
 ghost use Rattle.families_text.specs.Families.{clusterText, familiesText};
 
 // The stream, clustered, as text.
@@ -29,7 +30,7 @@ fn text_of(input: &[u8]) -> Text
     let session = families_session::session_of(input);
     let number = session.number;
     if number != 0 {
-        return families_lines::refused(number);
+        return text::refused(number);
     }
     let stream = session.stream;
     clustered_text(stream)

@@ -3,8 +3,8 @@ use Prim.Native.Nat.{ℕ, _≤_}
 use mathlib.Core.Path.{_≡_}
 use mathlib.Core.List.{List}
 use lib.ListN.{length}
-use Rattle.families_lines.specs.declared.text.Writing.{Writing}
-use Rattle.families_lines.specs.Lent.{writeTold, writeOf}
+use Rattle.text.specs.declared.writing.Writing.{Writing}
+use Rattle.text.specs.Lent.{writeTold, writeOf}
 
 -- some bytes, whatever came, were written there: nothing else is free
 pub record Read (answer : Writing) (before after : List ℕ) : Type 0 where

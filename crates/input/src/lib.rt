@@ -1,5 +1,5 @@
 // The one reader of the programs that take a session from standard input.
-use families_lines::Writing;
+use text::Writing;
 ghost use Rattle.io.specs.Counts.{Counts};
 ghost use Rattle.input.specs.Read.{Read};
 
@@ -31,5 +31,5 @@ pub fn read(fd: i32, room: &mut [u8]) -> Writing
 {
     let mut bytes = [0u8; ROOM];
     let n = read_all(fd, &mut bytes);
-    families_lines::write(&bytes[..n], room)
+    text::write(&bytes[..n], room)
 }

@@ -5,7 +5,7 @@ const STDOUT: i32 = 1;
 const NONE: i32 = -1;
 
 fn show(heading: &[u8], input: &[u8]) {
-    let mut output = [0u8; families_lines::ROOM];
+    let mut output = [0u8; text::ROOM];
     let written = families_picture::picture(input, &mut output);
     let n = written.count(&output);
     io::write_all(STDOUT, heading);

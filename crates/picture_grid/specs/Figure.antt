@@ -4,9 +4,9 @@ use mathlib.Core.Bool.{cond}
 use mathlib.Core.List.{List, [], _∷_, _++_}
 use lib.Ieee.{Float, binary64, ofBits, lt, neg, isNan, toUnsigned}
 use Rattle.float.specs.Rounded.{_⊕_, nought}
-use Rattle.families_lines.specs.Ascii.{ascii}
-use Rattle.families_lines.specs.Text.{decimal}
-use Rattle.page.specs.Added.{blanks, right}
+use Rattle.text.specs.Ascii.{ascii}
+use Rattle.text.specs.Text.{blanks}
+use Rattle.text.specs.Decimal.{decimal, right}
 
 -- 0.5, 10 and 100,000
 abbrev pub half : Float

@@ -4,9 +4,9 @@ use mathlib.Core.Bool.{cond}
 use mathlib.Core.List.{List, [], _∷_, _++_}
 use lib.Dec.{eqb}
 use lib.ListN.{getD}
-use Rattle.families_lines.specs.Ascii.{ascii}
-use Rattle.families_lines.specs.Text.{decimal}
-use Rattle.page.specs.Added.{each}
+use Rattle.text.specs.Ascii.{ascii}
+use Rattle.text.specs.Decimal.{decimal}
+use Rattle.text.specs.Text.{each}
 use Rattle.picture_grid.specs.declared.grid.Plot.{Plot}
 use Rattle.picture_grid.specs.declared.upward.Upward.{Upward}
 use Rattle.picture_grid.specs.Figure.{tenths}

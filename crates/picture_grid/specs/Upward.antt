@@ -1,7 +1,7 @@
 -- What a grid shows upwards: the lowest line's figure, the step to the next, in tenths, and the title. Definitions only.
 use Prim.Native.Nat.{ℕ}
 use mathlib.Core.List.{List}
-use Rattle.families_lines.specs.Ascii.{ascii}
+use Rattle.text.specs.Ascii.{ascii}
 use Rattle.picture_grid.specs.declared.upward.Upward.{Upward}
 use Rattle.picture_grid.specs.declared.upward.Upward.the-variants.{BeatError, Amplitude}
 

@@ -1,12 +1,11 @@
 // A grid as text: a frame, the figures of its lines, and the marks in its cells.
 use crate::figure::add_tenths;
 use crate::upward::Upward;
-use families_lines::Text;
-use page::add;
+use text::Text;
+use text::add;
 ghost use mathlib.Core.Path.{_≡_};
 ghost use Prim.Native.Nat.{_≤_, _<_};
-ghost use Rattle.families_lines.specs.Lent.{textOf};
-ghost use Rattle.page.specs.Added.{Added};
+ghost use Rattle.text.specs.Text.{Added};
 ghost use Rattle.picture_grid.specs.Grid.{framed, lineText, borderText, rowText, rowsText, hiddenText, gridText};
 
 // The frame's right column and its top line, the lines between, and the cells of a line, the frame's included.
@@ -35,12 +34,12 @@ fn framed(frame: u8, mark: u8) -> u8
 
 fn add_line(text: Text, frame: &[u8; WIDTH], cells: [u8; CELLS], row: usize) -> Text
     requires { ⌜ row ≤ 20 ⌝ }
-    ensures { λ r. ⌜ Added (textOf text) (lineText (now (frame .entry)) cells row) (textOf r) ⌝ }
+    ensures { λ r. ⌜ Added text (lineText (now (frame .entry)) cells row) r ⌝ }
 {
     let mut t = text;
     let mut i: usize = 0;
     while i < WIDTH {
-        t = page::add_byte(t, framed(frame[i], cells[row * WIDTH + i]));
+        t = text::add_byte(t, framed(frame[i], cells[row * WIDTH + i]));
         i += 1;
     }
     t
@@ -49,7 +48,7 @@ fn add_line(text: Text, frame: &[u8; WIDTH], cells: [u8; CELLS], row: usize) -> 
 // The frame's top or bottom line.
 fn add_border(text: Text, cells: [u8; CELLS], row: usize) -> Text
     requires { ⌜ row ≤ 20 ⌝ }
-    ensures { λ r. ⌜ Added (textOf text) (borderText cells row) (textOf r) ⌝ }
+    ensures { λ r. ⌜ Added text (borderText cells row) r ⌝ }
 {
     let apart = add(text, b"       ");
     let line = add_line(
@@ -64,7 +63,7 @@ fn add_border(text: Text, cells: [u8; CELLS], row: usize) -> Text
 // A line between them, with its figure.
 fn add_row(text: Text, up: Upward, cells: [u8; CELLS], row: usize) -> Text
     requires { ⌜ row < 19 ⌝ }
-    ensures { λ r. ⌜ Added (textOf text) (rowText up cells row) (textOf r) ⌝ }
+    ensures { λ r. ⌜ Added text (rowText up cells row) r ⌝ }
 {
     let named = add_tenths(
         text,
@@ -84,7 +83,7 @@ fn add_row(text: Text, up: Upward, cells: [u8; CELLS], row: usize) -> Text
 
 // From the top down.
 fn add_rows(text: Text, up: Upward, cells: [u8; CELLS]) -> Text
-    ensures { λ r. ⌜ Added (textOf text) (rowsText up cells) (textOf r) ⌝ }
+    ensures { λ r. ⌜ Added text (rowsText up cells) r ⌝ }
 {
     let mut t = text;
     let mut i: usize = 0;
@@ -96,18 +95,18 @@ fn add_rows(text: Text, up: Upward, cells: [u8; CELLS]) -> Text
 }
 
 fn add_hidden(text: Text, hidden: u64) -> Text
-    ensures { λ r. ⌜ Added (textOf text) (hiddenText hidden) (textOf r) ⌝ }
+    ensures { λ r. ⌜ Added text (hiddenText hidden) r ⌝ }
 {
     if hidden == 0 {
         return text;
     }
     let named = add(text, b"not shown (nan): ");
-    let counted = page::add_number(named, hidden);
+    let counted = text::add_number(named, hidden);
     add(counted, b"\n")
 }
 
 pub fn add_plot(text: Text, up: Upward, plot: Plot) -> Text
-    ensures { λ r. ⌜ Added (textOf text) (gridText up plot) (textOf r) ⌝ }
+    ensures { λ r. ⌜ Added text (gridText up plot) r ⌝ }
 {
     let cells = plot.cells;
     let titled = up.add_title(text);

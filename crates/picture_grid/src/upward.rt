@@ -1,9 +1,8 @@
 // What a grid shows upwards: the figures of its lines, in tenths.
-use families_lines::Text;
-use page::add;
+use text::Text;
+use text::add;
 ghost use mathlib.Core.Path.{_≡_};
-ghost use Rattle.families_lines.specs.Lent.{textOf};
-ghost use Rattle.page.specs.Added.{Added};
+ghost use Rattle.text.specs.Text.{Added};
 ghost use Rattle.picture_grid.specs.Upward.{lowOf, stepOf, titleOf};
 
 pub enum Upward {
@@ -33,7 +32,7 @@ impl Upward {
     }
 
     pub(crate) fn add_title(self, text: Text) -> Text
-        ensures { λ r. ⌜ Added (textOf text) (titleOf self) (textOf r) ⌝ }
+        ensures { λ r. ⌜ Added text (titleOf self) r ⌝ }
     {
         match self {
             Upward::BeatError => add(text, b"\nbeat error (ms)\n"),

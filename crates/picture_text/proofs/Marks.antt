@@ -9,7 +9,7 @@ use lib.Signed.{leZ}
 use mir.Syntax.{w64}
 use mir.Val.{SFits}
 use mir.Facts.{toZ-ofZ}
-use Rattle.families_lines.proofs.Magnitudes.{kept}
+use Rattle.text.proofs.Magnitudes.{kept}
 use Rattle.picture_text.specs.Row.{letterOf, markOf}
 
 pub mark-above : (z : ℤ) → SFits w64 z → leZ (pos 0) (kept z) ≡ true → letterOf (natAbs z) ≡ markOf z

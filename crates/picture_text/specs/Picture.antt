@@ -5,7 +5,7 @@ use mathlib.Core.List.{List, _++_}
 use lib.Dec.{eqb}
 use lib.IntN.{ℤ}
 use lib.Ieee.{Float}
-use Rattle.families_lines.specs.Ascii.{ascii}
+use Rattle.text.specs.Ascii.{ascii}
 use Rattle.picture_grid.specs.declared.upward.Upward.the-variants.{BeatError, Amplitude}
 use Rattle.picture_grid.specs.Grid.{gridText}
 use Rattle.picture_text.specs.declared.row.Row.{Row}

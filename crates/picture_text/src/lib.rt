@@ -3,14 +3,13 @@ mod plot;
 mod row;
 mod words;
 
-use families_lines::Text;
 use model::MICROS;
-use page::add;
 use picture_grid::Upward;
 pub use row::CENTRES;
+use text::Text;
+use text::add;
 ghost use Prim.Native.Nat.{min};
-ghost use Rattle.families_lines.specs.Lent.{textOf};
-ghost use Rattle.page.specs.Added.{Added};
+ghost use Rattle.text.specs.Text.{Added};
 ghost use Rattle.picture_text.specs.Picture.{pageOf};
 
 // The lines of the first n micro-clusters, what the alarm did, and the two grids.
@@ -22,7 +21,7 @@ pub fn drawn(
     n: usize,
     alarms: u64,
 ) -> Text
-    ensures { λ r. ⌜ Added (textOf text) (pageOf (min n 64) centres weights labels alarms) (textOf r) ⌝ }
+    ensures { λ r. ⌜ Added text (pageOf (min n 64) centres weights labels alarms) r ⌝ }
 {
     let k = lists::cut(n, MICROS);
     if k == 0 {

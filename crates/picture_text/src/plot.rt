@@ -3,7 +3,6 @@ use crate::row::CENTRES;
 use crate::row::Row;
 use crate::row::WEAK;
 use crate::row::row_at;
-use families_lines::Text;
 use model::MICROS;
 use picture_grid::CELLS;
 use picture_grid::Plot;
@@ -11,10 +10,10 @@ use picture_grid::RIGHT;
 use picture_grid::TOP;
 use picture_grid::Upward;
 use picture_grid::WIDTH;
+use text::Text;
 ghost use mathlib.Core.Path.{_≡_};
 ghost use Prim.Native.Nat.{_+_, _≤_, _<_};
-ghost use Rattle.families_lines.specs.Lent.{textOf};
-ghost use Rattle.page.specs.Added.{Added};
+ghost use Rattle.text.specs.Text.{Added};
 ghost use Rattle.picture_grid.specs.Grid.{gridText};
 ghost use Rattle.picture_text.specs.Row.{rowAt};
 ghost use Rattle.picture_text.specs.Plot.{upwardOf, cellOf, placeOf, isHidden, overOf, marked, plotOf};
@@ -122,7 +121,7 @@ pub(crate) fn add_grid(
     n: usize,
 ) -> Text
     requires { ⌜ n ≤ 64 ⌝ }
-    ensures { λ r. ⌜ Added (textOf text) (gridText up (plotOf up (rowAt centres weights labels) n)) (textOf r) ⌝ }
+    ensures { λ r. ⌜ Added text (gridText up (plotOf up (rowAt centres weights labels) n)) r ⌝ }
 {
     picture_grid::add_plot(text, up, plotted(up, centres, weights, labels, n))
 }

@@ -4,13 +4,12 @@ use crate::row::Row;
 use crate::row::WEAK;
 use crate::row::letter;
 use crate::row::row_at;
-use families_lines::Text;
 use model::MICROS;
-use page::add;
 use picture_grid::add_figure;
+use text::Text;
+use text::add;
 ghost use Prim.Native.Nat.{_≤_};
-ghost use Rattle.families_lines.specs.Lent.{textOf};
-ghost use Rattle.page.specs.Added.{Added, each};
+ghost use Rattle.text.specs.Text.{Added, each};
 ghost use Rattle.picture_text.specs.Row.{letterOf, rowAt};
 ghost use Rattle.picture_text.specs.Words.{headingOf, lineOf, lineIn, linesIn, alarmOf, wordsOf};
 
@@ -18,18 +17,18 @@ ghost use Rattle.picture_text.specs.Words.{headingOf, lineOf, lineIn, li
 const LETTERS: u64 = 53;
 
 fn add_heading(text: Text, mark: u8) -> Text
-    ensures { λ r. ⌜ Added (textOf text) (headingOf mark) (textOf r) ⌝ }
+    ensures { λ r. ⌜ Added text (headingOf mark) r ⌝ }
 {
     if mark == WEAK {
         return add(text, b"no family");
     }
     let family = add(text, b"family ");
-    let named = page::add_byte(family, mark);
+    let named = text::add_byte(family, mark);
     add(named, b" ")
 }
 
 fn add_line(text: Text, row: Row) -> Text
-    ensures { λ r. ⌜ Added (textOf text) (lineOf row) (textOf r) ⌝ }
+    ensures { λ r. ⌜ Added text (lineOf row) r ⌝ }
 {
     let named = add_heading(text, row.mark);
     let rate_at = add(named, b"  rate ");
@@ -45,7 +44,7 @@ fn add_line(text: Text, row: Row) -> Text
 
 // The line of a micro-cluster, if it has this mark.
 fn add_line_in(text: Text, row: Row, mark: u8) -> Text
-    ensures { λ r. ⌜ Added (textOf text) (lineIn mark row) (textOf r) ⌝ }
+    ensures { λ r. ⌜ Added text (lineIn mark row) r ⌝ }
 {
     if row.mark == mark {
         return add_line(text, row);
@@ -63,7 +62,7 @@ fn add_lines_in(
     mark: u8,
 ) -> Text
     requires { ⌜ n ≤ 64 ⌝ }
-    ensures { λ r. ⌜ Added (textOf text) (linesIn (rowAt centres weights labels) n mark) (textOf r) ⌝ }
+    ensures { λ r. ⌜ Added text (linesIn (rowAt centres weights labels) n mark) r ⌝ }
 {
     let mut t = text;
     let mut i: usize = 0;
@@ -83,7 +82,7 @@ fn add_families(
     n: usize,
 ) -> Text
     requires { ⌜ n ≤ 64 ⌝ }
-    ensures { λ r. ⌜ Added (textOf text) (each (λ k. linesIn (rowAt centres weights labels) n (letterOf k)) 53) (textOf r) ⌝ }
+    ensures { λ r. ⌜ Added text (each (λ k. linesIn (rowAt centres weights labels) n (letterOf k)) 53) r ⌝ }
 {
     let mut t = text;
     let mut family: u64 = 0;
@@ -95,13 +94,13 @@ fn add_families(
 }
 
 pub(crate) fn add_alarm(text: Text, alarms: u64) -> Text
-    ensures { λ r. ⌜ Added (textOf text) (alarmOf alarms) (textOf r) ⌝ }
+    ensures { λ r. ⌜ Added text (alarmOf alarms) r ⌝ }
 {
     if alarms == 0 {
         return add(text, b"the drift alarm did not ring\n");
     }
     let rang = add(text, b"the drift alarm rang ");
-    let counted = page::add_number(rang, alarms);
+    let counted = text::add_number(rang, alarms);
     if alarms == 1 {
         return add(counted, b" time\n");
     }
@@ -118,7 +117,7 @@ pub(crate) fn add_words(
     alarms: u64,
 ) -> Text
     requires { ⌜ n ≤ 64 ⌝ }
-    ensures { λ r. ⌜ Added (textOf text) (wordsOf (rowAt centres weights labels) n alarms) (textOf r) ⌝ }
+    ensures { λ r. ⌜ Added text (wordsOf (rowAt centres weights labels) n alarms) r ⌝ }
 {
     let families = add_families(text, centres, weights, labels, n);
     let weak = add_lines_in(families, centres, weights, labels, n, WEAK);

@@ -1,5 +1,5 @@
 // Writes a made-up session, as `families` reads it, to standard output.
-use families_lines::ROOM;
+use text::ROOM;
 
 const STDOUT: i32 = 1;
 

@@ -4,10 +4,9 @@ use mathlib.Core.Path.{_≡_, refl}
 use mathlib.Core.List.{List, _++_}
 use native.Mathlib.Nat.{le-of-lt, lt-of-le-of-lt, mul-le-mul-left, mul-lt-mul-of-pos-right}
 use native.Mathlib.Omega.{arith}
-use lib.ListN.{length, take, length-append}
+use lib.ListN.{length, length-append}
 use lib.Pow.{pow-pos}
-use lib.Seq.{take-all}
-use Rattle.page.specs.Added.{each}
+use Rattle.text.specs.Text.{each}
 use Rattle.sample_session.specs.declared.Phase.{Phase}
 use Rattle.sample_session.specs.Sample.{phaseOf, wordBytes, readingBytes, phaseBytes, settingsBytes, sampleBytes}
 
@@ -26,8 +25,8 @@ each-size p (suc n) =
     let e : length (each (readingBytes p) n ++ readingBytes p n) ≡ length (each (readingBytes p) n) + length (readingBytes p n) = length-append (each (readingBytes p) n) (readingBytes p n) in
     omega (arith, e, each-size p n, reading-size p n)
 
-record Long (l : List ℕ) (n : ℕ) : Type 0 where
-  is : length l ≡ n
+pub record Long (l : List ℕ) (n : ℕ) : Type 0 where
+  pub is : length l ≡ n
 
 settings-size : Long settingsBytes 40
 unfolding wordBytes
@@ -38,7 +37,7 @@ after {l} {n} e p =
     let a : length (l ++ phaseBytes p) ≡ length l + length (phaseBytes p) = length-append l (phaseBytes p) in
     record { is = omega (arith, a, e .is, each-size p (p .count)) }
 
-size : Long sampleBytes 8536
+pub size : Long sampleBytes 8536
 unfolding sampleBytes
 size =
     after
@@ -52,6 +51,3 @@ size =
     (phaseOf 1 0 44 225 9 0 0))
     (phaseOf 1 18 0 200 24 0 0))
     (phaseOf 96 4 0 285 2 8 3)
-
-pub all-of-it : take 16384 sampleBytes ≡ sampleBytes
-all-of-it = take-all 16384 sampleBytes (omega (arith, size .is))

@@ -4,7 +4,7 @@ use mathlib.Core.Bool.{cond}
 use mathlib.Core.List.{List, [], _∷_, _++_}
 use lib.Ieee.{Float, binary64, ofBits, toBits, isNan}
 use Rattle.float.specs.Rounded.{_⊕_, _⊖_, _⊗_, _⊘_, whole}
-use Rattle.page.specs.Added.{each}
+use Rattle.text.specs.Text.{each}
 use Rattle.sample_session.specs.declared.Phase.{Phase}
 
 -- 0.5, 8 and 65,536

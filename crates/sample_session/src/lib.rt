@@ -1,10 +1,10 @@
 // A made-up session of readings for `families`: a sound movement, a worn kind, another worn kind, two strays, and the sound one that drifts.
-use families_lines::Text;
-use families_lines::Writing;
-use page::add;
+use text::Text;
+use text::Writing;
+use text::add;
 ghost use mathlib.Core.Path.{_≡_};
-ghost use Rattle.families_lines.specs.Lent.{textOf, writeTold, writeOf};
-ghost use Rattle.page.specs.Added.{Added};
+ghost use Rattle.text.specs.Text.{textOf, Added};
+ghost use Rattle.text.specs.Lent.{writeTold, writeOf};
 ghost use Rattle.sample_session.specs.Sample.{phaseOf, wordBytes, doubleBytes, unit, readingBytes, phaseBytes, settingsBytes, sampleBytes};
 
 // So many readings around a centre, each apart from it by at most half the spread in each figure. Seconds a day that
@@ -43,7 +43,7 @@ fn phase_of(
 
 // Little-endian.
 fn add_word(text: Text, word: u64) -> Text
-    ensures { λ r. ⌜ Added (textOf text) (wordBytes word) (textOf r) ⌝ }
+    ensures { λ r. ⌜ Added text (wordBytes word) r ⌝ }
 {
     let bytes = [
         (word % 256) as u8,
@@ -60,7 +60,7 @@ fn add_word(text: Text, word: u64) -> Text
 
 // The bits of a double; a NaN is written as 0.
 fn add_double(text: Text, x: f64) -> Text
-    ensures { λ r. ⌜ Added (textOf text) (doubleBytes x) (textOf r) ⌝ }
+    ensures { λ r. ⌜ Added text (doubleBytes x) r ⌝ }
 {
     if x != x {
         return add_word(text, 0);
@@ -78,7 +78,7 @@ fn unit(i: u32, m: u32) -> f64
 
 // The reading of a number in its phase.
 fn add_reading(text: Text, p: Phase, i: u32) -> Text
-    ensures { λ r. ⌜ Added (textOf text) (readingBytes p i) (textOf r) ⌝ }
+    ensures { λ r. ⌜ Added text (readingBytes p i) r ⌝ }
 {
     let spread = p.spread as f64;
     let walked = p.walk as f64 * i as f64 / 8.0;
@@ -91,7 +91,7 @@ fn add_reading(text: Text, p: Phase, i: u32) -> Text
 }
 
 fn add_phase(text: Text, p: Phase) -> Text
-    ensures { λ r. ⌜ Added (textOf text) (phaseBytes p) (textOf r) ⌝ }
+    ensures { λ r. ⌜ Added text (phaseBytes p) r ⌝ }
 {
     let mut t = text;
     let mut i: u32 = 0;
@@ -104,7 +104,7 @@ fn add_phase(text: Text, p: Phase) -> Text
 
 // dim 3, r 10, lambda 2^-9, alpha 0.25, min_weight 6.
 fn add_settings(text: Text) -> Text
-    ensures { λ r. ⌜ Added (textOf text) settingsBytes (textOf r) ⌝ }
+    ensures { λ r. ⌜ Added text settingsBytes r ⌝ }
 {
     let dim = add_word(text, 3);
     let r = add_word(dim, 0x4024_0000_0000_0000);
@@ -116,7 +116,7 @@ fn add_settings(text: Text) -> Text
 fn sample() -> Text
     ensures { λ r. ⌜ textOf r ≡ sampleBytes ⌝ }
 {
-    let settings = add_settings(page::blank());
+    let settings = add_settings(text::blank());
     let sound = add_phase(settings, phase_of(96, 4, 0, 285, 2, 2, 0));
     let slower = add_phase(sound, phase_of(32, 0, 28, 215, 15, 2, 0));
     let faster = add_phase(slower, phase_of(32, 0, 16, 215, 15, 2, 0));

@@ -1,13 +1,13 @@
 -- `drawn` meets its contract. Assumes nothing.
 use Prim.Native.Nat.{ℕ}
-use mathlib.Core.Path.{subst}
-use mathlib.Core.List.{List}
+use mathlib.Core.Path.{ap, _∙_}
+use mathlib.Core.List.{List, _++_}
+use lib.ListN.{take}
 use borrow.Author.Needs.{needs}
 use Rattle.dbstream.specs.Stream.{view}
 use Rattle.readout.specs.Told.{labelsTold, statisticsTold}
-use Rattle.families_lines.specs.Lent.{textOf}
-use Rattle.page.specs.Added.{Added}
-use Rattle.page.specs.Laws.{worded}
+use Rattle.text.specs.Text.{room}
+use Rattle.text.specs.Laws.{worded}
 use Rattle.families_picture.specs.Picture.{drawnOf}
 use Rattle.families_picture.proofs.Drawings.{drawing}
 use Rattle.families_picture.proofs.drawn.Statement.{statement}
@@ -54,8 +54,8 @@ returns c =
     let l = c .before .before .before .before .before .labels2 in
     let d = c .before .before .before .drift in
     let n = c .before .before .«micro-count» in
-    subst (λ (t : List ℕ). Added t (drawnOf (view s)) (textOf (c .drawn .result))) (c .before .blank .ensures)
-    (worded (drawing (view s) (view (u .result)) (n .result) (statisticsTold (f .result) (f .last .1 .0) (f .last .1 .1 .0) (f .last .1 .1 .1 .0)) (labelsTold (l .result) (l .last .1 .0)) (d .result) (u .ensures) (n .ensures) (f .ensures) (l .ensures) (d .ensures)) (c .drawn .ensures))
+    (worded (drawing (view s) (view (u .result)) (n .result) (statisticsTold (f .result) (f .last .1 .0) (f .last .1 .1 .0) (f .last .1 .1 .1 .0)) (labelsTold (l .result) (l .last .1 .0)) (d .result) (u .ensures) (n .ensures) (f .ensures) (l .ensures) (d .ensures)) (c .drawn .ensures)) .is
+    ∙ ap (λ (t : List ℕ). take room (t ++ drawnOf (view s))) (c .before .blank .ensures .0)
 
 pub drawn-spec : {M : Type 1} → statement M
 drawn-spec =

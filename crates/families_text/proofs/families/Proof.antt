@@ -3,7 +3,7 @@ use Prim.Native.Nat.{ℕ}
 use mathlib.Core.Path.{ap, _∙_}
 use mathlib.Core.List.{List}
 use borrow.Author.Needs.{needs}
-use Rattle.families_lines.specs.Lent.{writeOf}
+use Rattle.text.specs.Lent.{writeOf}
 use Rattle.families_text.proofs.families.Statement.{statement}
 use Rattle.families_text.proofs.families.Tie as tie
 

@@ -1,6 +1,6 @@
 -- `drawn` meets its contract. Assumes nothing.
 use borrow.Author.Tests.{eq-eqb, ne-eqb}
-use Rattle.page.specs.Laws.{both}
+use Rattle.text.specs.Laws.{both}
 use borrow.Author.Needs.{needs}
 use Rattle.picture_text.proofs.drawn.Statement.{statement}
 use Rattle.picture_text.proofs.drawn.Tie as tie

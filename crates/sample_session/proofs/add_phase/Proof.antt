@@ -1,23 +1,23 @@
 -- `add_phase` meets its contract. Assumes nothing.
+use lib.ListN.{length-map}
 use Prim.Native.Nat.{_-_, _≤_}
-use mathlib.Core.Path.{_≡_}
+use mathlib.Core.Path.{_≡_, sym, _∙_}
 use native.Mathlib.Omega.{arith}
 use borrow.Author.Needs.{needs}
-use Rattle.families_lines.specs.Lent.{textOf}
-use Rattle.page.specs.Added.{Added, each}
-use Rattle.page.specs.Laws.{first, more}
+use Rattle.text.specs.Text.{Added, each}
+use Rattle.text.specs.Laws.{first, more}
 use Rattle.sample_session.specs.Sample.{readingBytes}
 use Rattle.sample_session.proofs.add_phase.Statement.{statement}
 use Rattle.sample_session.proofs.add_phase.Tie as tie
 
 abbrev Inv-loop : tie.InvT-loop
-Inv-loop p t₀ i₀ t i = (i ≤ p .count) × Added (textOf t₀) (each (readingBytes p) i) (textOf t)
+Inv-loop p t₀ i₀ t i = (i ≤ p .count) × Added t₀ (each (readingBytes p) i) t
 
 abbrev μ-loop : tie.MeasureT-loop
 μ-loop p t₀ i₀ t i = p .count - i
 
 loop-holds : tie.Need-loop-holds Inv-loop μ-loop
-loop-holds c = (omega arith, first (readingBytes (c .args .p)) _)
+loop-holds c = (omega arith, first (readingBytes (c .args .p)) (c .args .text) (sym (length-map (c .args .text .bytes) _) ∙ c .good .0 .1 .1 .0 .1 .0 .1))
 
 add-reading-requires : tie.Need-add-reading-requires Inv-loop μ-loop
 add-reading-requires c κs = search needs

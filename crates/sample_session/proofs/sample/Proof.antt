@@ -1,14 +1,10 @@
 -- `sample` meets its contract. Assumes nothing.
-use Prim.Native.Nat.{ℕ}
-use mathlib.Core.Path.{_≡_, sym, ap, _∙_, subst}
-use mathlib.Core.List.{List}
+use mathlib.Core.Path.{ap}
+use native.Mathlib.Omega.{arith}
 use borrow.Author.Needs.{needs}
-use lib.ListN.{length, length-map}
-use Rattle.families_lines.specs.Lent.{textOf}
-use Rattle.page.specs.Added.{Added}
-use Rattle.page.specs.Laws.{both, worded, from-blank}
-use Rattle.sample_session.specs.Sample.{phaseBytes, settingsBytes, sampleBytes}
-use Rattle.sample_session.proofs.Sizes.{all-of-it}
+use Rattle.text.specs.Laws.{both, worded, from-blank}
+use Rattle.sample_session.specs.Sample.{phaseBytes, sampleBytes}
+use Rattle.sample_session.proofs.Sizes.{size}
 use Rattle.sample_session.proofs.sample.Statement.{statement}
 use Rattle.sample_session.proofs.sample.Tie as tie
 
@@ -69,9 +65,7 @@ add-phase-requires-8 c κs = search needs
 returns : tie.Need-returns
 unfolding sampleBytes
 returns c =
-    let t = c .«add-phase8» in
-    let room : length (t .result .bytes) ≡ 16384 = sym (length-map (t .result .bytes) _) ∙ t .ok .1 .1 .0 .1 .0 .1 in
-    let settings = subst (λ (l : List ℕ). Added l settingsBytes (textOf (c .before .before .before .before .before .before .before .before .before .before .before .before .before .before .before .before .«add-settings» .result))) (c .before .before .before .before .before .before .before .before .before .before .before .before .before .before .before .before .before .blank .ensures) (c .before .before .before .before .before .before .before .before .before .before .before .before .before .before .before .before .«add-settings» .ensures) in
+    let settings = c .before .before .before .before .before .before .before .before .before .before .before .before .before .before .before .before .«add-settings» .ensures in
     let p1 = both settings (worded (ap phaseBytes (c .before .before .before .before .before .before .before .before .before .before .before .before .before .before .before .«phase-of» .ensures)) (c .before .before .before .before .before .before .before .before .before .before .before .before .before .before .«add-phase» .ensures)) in
     let p2 = both p1 (worded (ap phaseBytes (c .before .before .before .before .before .before .before .before .before .before .before .before .before .«phase-of2» .ensures)) (c .before .before .before .before .before .before .before .before .before .before .before .before .«add-phase2» .ensures)) in
     let p3 = both p2 (worded (ap phaseBytes (c .before .before .before .before .before .before .before .before .before .before .before .«phase-of3» .ensures)) (c .before .before .before .before .before .before .before .before .before .before .«add-phase3» .ensures)) in
@@ -80,7 +74,7 @@ returns c =
     let p6 = both p5 (worded (ap phaseBytes (c .before .before .before .before .before .«phase-of6» .ensures)) (c .before .before .before .before .«add-phase6» .ensures)) in
     let p7 = both p6 (worded (ap phaseBytes (c .before .before .before .«phase-of7» .ensures)) (c .before .before .«add-phase7» .ensures)) in
     let p8 = both p7 (worded (ap phaseBytes (c .before .«phase-of8» .ensures)) (c .«add-phase8» .ensures)) in
-    from-blank (t .result) room p8 ∙ all-of-it
+    from-blank (c .before .before .before .before .before .before .before .before .before .before .before .before .before .before .before .before .before .blank .ensures .0) p8 (omega (arith, size .is))
 
 pub sample-spec : {M : Type 1} → statement M
 sample-spec =

@@ -3,7 +3,7 @@ use Prim.Native.Nat.{ℕ}
 use mathlib.Core.Path.{ap, _∙_}
 use mathlib.Core.List.{List}
 use borrow.Author.Needs.{needs}
-use Rattle.families_lines.specs.Lent.{writeOf}
+use Rattle.text.specs.Lent.{writeOf}
 use Rattle.sample_session.proofs.session.Statement.{statement}
 use Rattle.sample_session.proofs.session.Tie as tie
 

@@ -1,6 +1,6 @@
 -- `add_figure` meets its contract. Assumes nothing.
 use Rattle.float.specs.Compare.{nan-test}
-use Rattle.page.specs.Laws.{both}
+use Rattle.text.specs.Laws.{both}
 use Rattle.picture_grid.specs.Figure.{figureOf}
 use borrow.Author.Needs.{needs}
 use Rattle.picture_grid.proofs.figure.add_figure.Statement.{statement}

@@ -1,12 +1,14 @@
 -- `add_hidden` meets its contract. Assumes nothing.
+use lib.ListN.{length-map}
+use mathlib.Core.Path.{sym, _∙_}
 use borrow.Author.Tests.{eq-eqb, ne-eqb}
-use Rattle.page.specs.Laws.{nothing, both}
+use Rattle.text.specs.Laws.{nothing, both}
 use borrow.Author.Needs.{needs}
 use Rattle.picture_grid.proofs.grid.add_hidden.Statement.{statement}
 use Rattle.picture_grid.proofs.grid.add_hidden.Tie as tie
 
 returns : tie.Need-returns
-returns c = rw (eq-eqb _ _ (c .if1 .taken)) (nothing _)
+returns c = rw (eq-eqb _ _ (c .if1 .taken)) (nothing (c .before .args .text) (sym (length-map (c .before .args .text .bytes) _) ∙ c .before .good .0 .1 .1 .0 .1 .0 .1))
 
 slice-aggregate-add : tie.Need-slice-aggregate-add
 slice-aggregate-add c = search needs

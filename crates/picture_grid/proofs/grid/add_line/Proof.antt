@@ -1,24 +1,24 @@
 -- `add_line` meets its contract. Assumes nothing.
+use lib.ListN.{length-map}
 use Prim.Native.Nat.{ℕ, _-_, _≤_}
-use mathlib.Core.Path.{_≡_, ap}
+use mathlib.Core.Path.{_≡_, ap, sym, _∙_}
 use mathlib.Core.List.{[], _∷_}
 use native.Mathlib.Omega.{arith}
-use Rattle.families_lines.specs.Lent.{textOf}
-use Rattle.page.specs.Added.{Added, each}
-use Rattle.page.specs.Laws.{first, more, worded}
+use Rattle.text.specs.Text.{Added, each}
+use Rattle.text.specs.Laws.{first, more, worded}
 use Rattle.picture_grid.specs.Grid.{cellText}
 use borrow.Author.Needs.{needs}
 use Rattle.picture_grid.proofs.grid.add_line.Statement.{statement}
 use Rattle.picture_grid.proofs.grid.add_line.Tie as tie
 
 abbrev Inv-loop : tie.InvT-loop
-Inv-loop frame row cells t₀ i₀ t i = (i ≤ 63) × Added (textOf t₀) (each (cellText frame cells row) i) (textOf t)
+Inv-loop frame row cells t₀ i₀ t i = (i ≤ 63) × Added t₀ (each (cellText frame cells row) i) t
 
 abbrev μ-loop : tie.MeasureT-loop
 μ-loop frame row cells t₀ i₀ t i = 63 - i
 
 loop-holds : tie.Need-loop-holds Inv-loop μ-loop
-loop-holds c = let a = c .args in (omega arith, first (cellText (a .frame .now) (a .t3) (a .row)) _)
+loop-holds c = let a = c .args in (omega arith, first (cellText (a .frame .now) (a .t3) (a .row)) (c .args .text) (sym (length-map (c .args .text .bytes) _) ∙ c .good .0 .1 .1 .0 .1 .0 .1))
 
 element-copy-out-framed : tie.Need-element-copy-out-framed Inv-loop μ-loop
 element-copy-out-framed c = search needs

@@ -1,23 +1,23 @@
 -- `add_rows` meets its contract. Assumes nothing.
+use lib.ListN.{length-map}
 use Prim.Native.Nat.{ℕ, _-_, _≤_}
-use mathlib.Core.Path.{_≡_}
+use mathlib.Core.Path.{_≡_, sym, _∙_}
 use native.Mathlib.Omega.{arith}
-use Rattle.families_lines.specs.Lent.{textOf}
-use Rattle.page.specs.Added.{Added, each}
-use Rattle.page.specs.Laws.{first, more}
+use Rattle.text.specs.Text.{Added, each}
+use Rattle.text.specs.Laws.{first, more}
 use Rattle.picture_grid.specs.Grid.{rowText}
 use borrow.Author.Needs.{needs}
 use Rattle.picture_grid.proofs.grid.add_rows.Statement.{statement}
 use Rattle.picture_grid.proofs.grid.add_rows.Tie as tie
 
 abbrev Inv-loop : tie.InvT-loop
-Inv-loop up cells t₀ i₀ t i = (i ≤ 19) × Added (textOf t₀) (each (λ (k : ℕ). rowText up cells (18 - k)) i) (textOf t)
+Inv-loop up cells t₀ i₀ t i = (i ≤ 19) × Added t₀ (each (λ (k : ℕ). rowText up cells (18 - k)) i) t
 
 abbrev μ-loop : tie.MeasureT-loop
 μ-loop up cells t₀ i₀ t i = 19 - i
 
 loop-holds : tie.Need-loop-holds Inv-loop μ-loop
-loop-holds c = let a = c .args in (omega arith, first (λ (k : ℕ). rowText (a .up) (a .cells) (18 - k)) _)
+loop-holds c = let a = c .args in (omega arith, first (λ (k : ℕ). rowText (a .up) (a .cells) (18 - k)) (c .args .text) (sym (length-map (c .args .text .bytes) _) ∙ c .good .0 .1 .1 .0 .1 .0 .1))
 
 sub-add-row : tie.Need-sub-add-row Inv-loop μ-loop
 sub-add-row c = search needs

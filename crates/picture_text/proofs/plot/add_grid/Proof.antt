@@ -1,6 +1,6 @@
 -- `add_grid` meets its contract. Assumes nothing.
 use mathlib.Core.Path.{ap}
-use Rattle.page.specs.Laws.{worded}
+use Rattle.text.specs.Laws.{worded}
 use Rattle.picture_grid.specs.Grid.{gridText}
 use borrow.Author.Needs.{needs}
 use Rattle.picture_text.proofs.plot.add_grid.Statement.{statement}

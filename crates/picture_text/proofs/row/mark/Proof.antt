@@ -3,7 +3,7 @@ use mathlib.Core.Path.{ap, _∙_}
 use borrow.Author.Needs.{needs}
 use lib.IntN.{natAbs}
 use mir.Facts.{toZ-ofZ}
-use Rattle.families_lines.proofs.Magnitudes.{above}
+use Rattle.text.proofs.Magnitudes.{above}
 use Rattle.picture_text.specs.Row.{letterOf}
 use Rattle.picture_text.proofs.Marks.{mark-above, mark-below}
 use Rattle.picture_text.proofs.row.mark.Statement.{statement}

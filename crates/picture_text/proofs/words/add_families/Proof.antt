@@ -1,24 +1,24 @@
 -- `add_families` meets its contract. Assumes nothing.
+use lib.ListN.{length-map}
 use Prim.Native.Nat.{ℕ, _-_, _≤_}
-use mathlib.Core.Path.{_≡_, ap}
+use mathlib.Core.Path.{_≡_, ap, sym, _∙_}
 use native.Mathlib.Omega.{arith}
 use borrow.Author.Needs.{needs}
-use Rattle.families_lines.specs.Lent.{textOf}
-use Rattle.page.specs.Added.{Added, each}
-use Rattle.page.specs.Laws.{first, more, worded}
+use Rattle.text.specs.Text.{Added, each}
+use Rattle.text.specs.Laws.{first, more, worded}
 use Rattle.picture_text.specs.Row.{letterOf, rowAt}
 use Rattle.picture_text.specs.Words.{linesIn}
 use Rattle.picture_text.proofs.words.add_families.Statement.{statement}
 use Rattle.picture_text.proofs.words.add_families.Tie as tie
 
 abbrev Inv-loop : tie.InvT-loop
-Inv-loop centres weights labels n t₀ family₀ t family = (family ≤ 53) × Added (textOf t₀) (each (λ (k : ℕ). linesIn (rowAt centres weights labels) n (letterOf k)) family) (textOf t)
+Inv-loop centres weights labels n t₀ family₀ t family = (family ≤ 53) × Added t₀ (each (λ (k : ℕ). linesIn (rowAt centres weights labels) n (letterOf k)) family) t
 
 abbrev μ-loop : tie.MeasureT-loop
 μ-loop centres weights labels n t₀ family₀ t family = 53 - family
 
 loop-holds : tie.Need-loop-holds Inv-loop μ-loop
-loop-holds c = let a = c .args in (omega arith, first (λ (k : ℕ). linesIn (rowAt (a .centres) (a .weights) (a .labels)) (a .n) (letterOf k)) _)
+loop-holds c = let a = c .args in (omega arith, first (λ (k : ℕ). linesIn (rowAt (a .centres) (a .weights) (a .labels)) (a .n) (letterOf k)) (c .args .text) (sym (length-map (c .args .text .bytes) _) ∙ c .good .0 .1 .1 .0 .1 .0 .1))
 
 letter-requires : tie.Need-letter-requires Inv-loop μ-loop
 letter-requires c κs = search needs

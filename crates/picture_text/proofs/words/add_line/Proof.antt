@@ -1,5 +1,5 @@
 -- `add_line` meets its contract. Assumes nothing.
-use Rattle.page.specs.Laws.{both}
+use Rattle.text.specs.Laws.{both}
 use Rattle.picture_text.specs.Words.{lineOf}
 use borrow.Author.Needs.{needs}
 use Rattle.picture_text.proofs.words.add_line.Statement.{statement}

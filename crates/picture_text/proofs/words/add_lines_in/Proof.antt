@@ -1,24 +1,24 @@
 -- `add_lines_in` meets its contract. Assumes nothing.
+use lib.ListN.{length-map}
 use Prim.Native.Nat.{ℕ, _-_, _≤_}
-use mathlib.Core.Path.{_≡_, ap}
+use mathlib.Core.Path.{_≡_, ap, sym, _∙_}
 use native.Mathlib.Omega.{arith}
 use borrow.Author.Needs.{needs}
-use Rattle.families_lines.specs.Lent.{textOf}
-use Rattle.page.specs.Added.{Added}
-use Rattle.page.specs.Laws.{first, more, worded}
+use Rattle.text.specs.Text.{Added}
+use Rattle.text.specs.Laws.{first, more, worded}
 use Rattle.picture_text.specs.Row.{rowAt}
 use Rattle.picture_text.specs.Words.{lineIn, linesIn}
 use Rattle.picture_text.proofs.words.add_lines_in.Statement.{statement}
 use Rattle.picture_text.proofs.words.add_lines_in.Tie as tie
 
 abbrev Inv-loop : tie.InvT-loop
-Inv-loop centres weights labels n mark t₀ i₀ t i = (i ≤ n) × Added (textOf t₀) (linesIn (rowAt centres weights labels) i mark) (textOf t)
+Inv-loop centres weights labels n mark t₀ i₀ t i = (i ≤ n) × Added t₀ (linesIn (rowAt centres weights labels) i mark) t
 
 abbrev μ-loop : tie.MeasureT-loop
 μ-loop centres weights labels n mark t₀ i₀ t i = n - i
 
 loop-holds : tie.Need-loop-holds Inv-loop μ-loop
-loop-holds c = let a = c .args in (omega arith, first (λ (i : ℕ). lineIn (a .mark) (rowAt (a .centres) (a .weights) (a .labels) i)) _)
+loop-holds c = let a = c .args in (omega arith, first (λ (i : ℕ). lineIn (a .mark) (rowAt (a .centres) (a .weights) (a .labels) i)) (c .args .text) (sym (length-map (c .args .text .bytes) _) ∙ c .good .0 .1 .1 .0 .1 .0 .1))
 
 row-at-requires : tie.Need-row-at-requires Inv-loop μ-loop
 row-at-requires c κs = search needs

@@ -1,6 +1,6 @@
 -- `add_words` meets its contract. Assumes nothing.
 use borrow.Author.Needs.{needs}
-use Rattle.page.specs.Laws.{both}
+use Rattle.text.specs.Laws.{both}
 use Rattle.picture_text.proofs.words.add_words.Statement.{statement}
 use Rattle.picture_text.proofs.words.add_words.Tie as tie
 

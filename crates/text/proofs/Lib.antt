@@ -1,0 +1,4 @@
+pub mod Adding
+pub mod Decimals
+pub mod Magnitudes
+pub mod Outputs
