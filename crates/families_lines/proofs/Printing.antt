@@ -1,20 +1,19 @@
 -- Lines one after another, and how long they are. Assumes nothing.
-use Prim.Native.Nat.{ℕ, zero, suc, _+_, _*_, _^_, _≤_, _<_}
+use Prim.Native.Nat.{ℕ, zero, suc, _+_, _*_, _^_, _<_}
 use mathlib.Core.Path.{_≡_, sym, ap, _∙_}
 use mathlib.Core.List.{List, [], _∷_, _++_, append-nil, append-assoc}
 use native.Mathlib.Numerals.{add-one}
 use native.Mathlib.Omega.{arith}
 use lib.IntN.{ℤ}
-use lib.ListN.{length, take, getD, length-append}
+use lib.ListN.{length, take, getD}
 use lib.Signed.{mag}
 use Rattle.drift.specs.declared.DriftReport.{DriftReport}
 use Rattle.model.specs.declared.micro.MicroId.{MicroId}
 use Rattle.text.specs.declared.text.Text.{Text}
 use Rattle.text.specs.Ascii.{ascii}
-use Rattle.text.specs.Decimal.{decimal, integer}
 use Rattle.text.specs.Text.{room, Added}
 use Rattle.text.specs.Laws.{nothing, both, worded}
-use Rattle.text.specs.Sizes.{number-within, integer-within}
+use Rattle.text.specs.Sizes.{Within, piece, beside, number-within, integer-within}
 use Rattle.families_lines.specs.Lines.{lineOf, linesOf, lastLine}
 
 lines-suc : (i : ℕ) (ids : List MicroId) (labels : List ℤ) (d : MicroId) (z : ℤ) → i < length ids → i < length labels → linesOf (take i ids) (take i labels) ++ lineOf (getD ids i d) (getD labels i z) ≡ linesOf (take (suc i) ids) (take (suc i) labels)
@@ -29,15 +28,15 @@ lines-suc (suc i) (id ∷ ids) (label ∷ labels) d z h k =
 -- i lines are added
 pub record Lined (t : Text) (ids : List MicroId) (labels : List ℤ) (i : ℕ) (u : Text) : Type 0 where
   pub added : Added t (linesOf (take i ids) (take i labels)) u
-  pub within : length (linesOf (take i ids) (take i labels)) ≤ 43 * i
+  pub within : Within (linesOf (take i ids) (take i labels)) (43 * i)
 
 pub no-lines : (t : Text) (ids : List MicroId) (labels : List ℤ) → length (t .bytes) ≡ room → Lined t ids labels 0 t
 unfolding linesOf
-no-lines t ids labels l = record { added = nothing t l; within = omega arith }
+no-lines t ids labels l = record { added = nothing t l; within = record { is = omega arith } }
 
 pub lines-more :
     {t u v : Text} {label : ℤ} (i : ℕ) (ids : List MicroId) (labels : List ℤ) (d : MicroId) (z : ℤ) → i < length ids → i < length labels →
-    Lined t ids labels i u → Added u (lineOf (getD ids i d) label) v → length (lineOf (getD ids i d) label) ≤ 43 → label ≡ getD labels i z →
+    Lined t ids labels i u → Added u (lineOf (getD ids i d) label) v → Within (lineOf (getD ids i d) label) 43 → label ≡ getD labels i z →
     Lined t ids labels (i + 1) v
 lines-more {t} {u} {v} {label} i ids labels d z h k p q w e =
     let line = lineOf (getD ids i d) label in
@@ -48,28 +47,14 @@ lines-more {t} {u} {v} {label} i ids labels d z h k p q w e =
     in
     record {
       added = worded s (both (p .added) q);
-      within = omega (arith, ap length s, length-append (linesOf (take i ids) (take i labels)) (lineOf (getD ids i d) label), p .within, w);
+      within = record { is = omega (arith, ap length s, beside (p .within) w .is) };
     }
 
-pub line-within : (id : MicroId) (label : ℤ) → id .0 < 2 ^ 64 → mag label < 2 ^ 63 → length (lineOf id label) ≤ 43
-line-within id label h k =
-    omega (
-      arith,
-      length-append (decimal (id .0) ++ ascii " " ++ integer label) (ascii "\n"),
-      length-append (decimal (id .0) ++ ascii " ") (integer label),
-      length-append (decimal (id .0)) (ascii " "),
-      number-within (id .0) h,
-      integer-within label k,
-    )
+pub line-within : (id : MicroId) (label : ℤ) → id .0 < 2 ^ 64 → mag label < 2 ^ 63 → Within (lineOf id label) 43
+line-within id label h k = beside (beside (beside (number-within (id .0) h) (piece (ascii " "))) (integer-within label k)) (piece (ascii "\n"))
 
-pub last-within : (report : DriftReport) → report .alarms < 2 ^ 64 → report .window < 2 ^ 64 → length (lastLine report) ≤ 56
+pub last-within : (report : DriftReport) → report .alarms < 2 ^ 64 → report .window < 2 ^ 64 → Within (lastLine report) 56
 last-within report h k =
-    omega (
-      arith,
-      length-append (ascii "alarms " ++ decimal (report .alarms) ++ ascii " window " ++ decimal (report .window)) (ascii "\n"),
-      length-append (ascii "alarms " ++ decimal (report .alarms) ++ ascii " window ") (decimal (report .window)),
-      length-append (ascii "alarms " ++ decimal (report .alarms)) (ascii " window "),
-      length-append (ascii "alarms ") (decimal (report .alarms)),
-      number-within (report .alarms) h,
-      number-within (report .window) k,
-    )
+    beside
+    (beside (beside (beside (piece (ascii "alarms ")) (number-within (report .alarms) h)) (piece (ascii " window "))) (number-within (report .window) k))
+    (piece (ascii "\n"))

@@ -8,13 +8,14 @@ use text::add_number;
 ghost use Prim.Native.Nat.{_*_, _≤_};
 ghost use mathlib.Core.Path.{_≡_};
 ghost use mathlib.Core.List.{_++_};
-ghost use lib.ListN.{length, take};
+ghost use lib.ListN.{take};
 ghost use Rattle.text.specs.Text.{textOf, Added};
+ghost use Rattle.text.specs.Sizes.{Within};
 ghost use Rattle.families_lines.specs.Lines.{lineOf, linesOf, lastLine};
 
 fn add_line(text: Text, id: MicroId, label: i64) -> Text
     ensures { λ r. ⌜ Added text (lineOf id label) r ⌝ }
-    ensures { λ r. ⌜ length (lineOf id label) ≤ 43 ⌝ }
+    ensures { λ r. ⌜ Within (lineOf id label) 43 ⌝ }
 {
     let numbered = add_number(text, id.0);
     let apart = add(numbered, b" ");
@@ -26,7 +27,7 @@ fn add_line(text: Text, id: MicroId, label: i64) -> Text
 fn add_lines(text: Text, ids: [MicroId; MICROS], labels: [i64; MICROS], n: usize) -> Text
     requires { ⌜ n ≤ 64 ⌝ }
     ensures { λ r. ⌜ Added text (linesOf (take n ids) (take n labels)) r ⌝ }
-    ensures { λ r. ⌜ length (linesOf (take n ids) (take n labels)) ≤ 43 * n ⌝ }
+    ensures { λ r. ⌜ Within (linesOf (take n ids) (take n labels)) (43 * n) ⌝ }
 {
     let mut t = text;
     let mut i: usize = 0;
@@ -39,7 +40,7 @@ fn add_lines(text: Text, ids: [MicroId; MICROS], labels: [i64; MICROS], n: usize
 
 fn add_last(text: Text, report: DriftReport) -> Text
     ensures { λ r. ⌜ Added text (lastLine report) r ⌝ }
-    ensures { λ r. ⌜ length (lastLine report) ≤ 56 ⌝ }
+    ensures { λ r. ⌜ Within (lastLine report) 56 ⌝ }
 {
     let rang = add(text, b"alarms ");
     let counted = add_number(rang, report.alarms);

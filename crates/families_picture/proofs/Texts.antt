@@ -4,21 +4,12 @@ use mathlib.Core.Path.{_≡_, sym, ap, ap₂, _∙_}
 use mathlib.Core.Logic.{_≢_}
 use mathlib.Core.Bool.{Bool, cond}
 use mathlib.Core.List.{List}
-use native.Mathlib.Omega.{arith}
 use borrow.Author.Tests.{eq-eqb, ne-eqb}
 use lib.Dec.{eqb}
-use lib.ListN.{length, take, length-take}
-use lib.Seq.{take-all}
-use Rattle.text.specs.declared.text.Text.{Text}
-use Rattle.text.specs.Text.{room, textOf}
 use Rattle.text.specs.Ascii.{ascii}
 use Rattle.text.specs.Refusal.{refusedLine}
 use Rattle.families_session.specs.Session.{Ran, ranOf}
 use Rattle.families_picture.specs.Picture.{drawnOf, ranText, pictureText}
-
--- what a text holds is not cut
-pub whole : (t : Text) {p : List ℕ} → length (t .bytes) ≡ room → textOf t ≡ p → textOf t ≡ take room p
-whole t {p} l e = e ∙ sym (take-all room p (omega (arith, ap length e, length-take (t .len) (t .bytes))))
 
 module _ (bytes : List ℕ) (r : Ran) (e : r ≡ ranOf bytes) where
   is : ranText r ≡ pictureText bytes

@@ -5,9 +5,8 @@ use picture_text::CENTRES;
 use text::Text;
 use text::Writing;
 ghost use mathlib.Core.Path.{_≡_};
-ghost use lib.ListN.{take};
 ghost use Rattle.dbstream.specs.Stream.{view};
-ghost use Rattle.text.specs.Text.{room, textOf};
+ghost use Rattle.text.specs.Text.{textOf};
 ghost use Rattle.text.specs.Lent.{writeTold, writeOf};
 ghost use Rattle.families_picture.specs.Picture.{drawnOf, pictureText};
 
@@ -16,7 +15,7 @@ const FIGURES: usize = 3;
 
 // The stream, clustered, in words and as a picture.
 fn drawn(stream: DbStream) -> Text
-    ensures { λ r. ⌜ textOf r ≡ take room (drawnOf (view stream)) ⌝ }
+    ensures { λ r. ⌜ textOf r ≡ drawnOf (view stream) ⌝ }
 {
     let clustered = stream.cluster();
     let mut centres = [0.0; CENTRES];
@@ -32,7 +31,7 @@ fn drawn(stream: DbStream) -> Text
 
 // A refusal is all that is printed; so is that another dim has no picture.
 fn text_of(input: &[u8]) -> Text
-    ensures { λ r. ⌜ textOf r ≡ take room (pictureText (now (input .entry))) ⌝ }
+    ensures { λ r. ⌜ textOf r ≡ pictureText (now (input .entry)) ⌝ }
 {
     let session = families_session::session_of(input);
     let number = session.number;
@@ -48,7 +47,7 @@ fn text_of(input: &[u8]) -> Text
 
 // The text at the start of the output, if it has a place for all of it.
 pub fn picture(input: &[u8], output: &mut [u8]) -> Writing
-    ensures { λ r. ⌜ writeTold r (now (output .exit)) ≡ writeOf (take room (pictureText (now (input .entry)))) (now (output .entry)) ⌝ }
+    ensures { λ r. ⌜ writeTold r (now (output .exit)) ≡ writeOf (pictureText (now (input .entry))) (now (output .entry)) ⌝ }
 {
     let text = text_of(input);
     text.write(output)

@@ -22,17 +22,25 @@ cellText frame cells row i = framed (getD frame i 0) (getD cells (row * 63 + i) 
 abbrev pub lineText : (frame cells : List ℕ) (row : ℕ) → List ℕ
 lineText frame cells row = each (cellText frame cells row) 63
 
+-- the frame's top and bottom, its sides, and what stands below it
+abbrev pub border : List ℕ
+border = ascii "+|--------------|--------------|--------------|--------------|+"
+
+abbrev pub sides : List ℕ
+sides = ascii "|                                                             |"
+
+abbrev pub axis : List ℕ
+axis = ascii "       -60            -30             0             +30            +60  rate (s/d)\n"
+
 abbrev pub borderText : (cells : List ℕ) (row : ℕ) → List ℕ
 borderText cells row =
-    ascii "       "
-    ++ lineText (ascii "+|--------------|--------------|--------------|--------------|+") cells row
-    ++ ascii "\n"
+    ascii "       " ++ lineText border cells row ++ ascii "\n"
 
 abbrev pub rowText : Upward → (cells : List ℕ) (row : ℕ) → List ℕ
 rowText up cells row =
     tenths 3 32 (lowOf up + row * stepOf up)
     ++ ascii " "
-    ++ lineText (ascii "|                                                             |") cells (row + 1)
+    ++ lineText sides cells (row + 1)
     ++ ascii "\n"
 
 -- from the top down
@@ -48,5 +56,5 @@ gridText up plot =
     ++ borderText (plot .cells) 20
     ++ rowsText up (plot .cells)
     ++ borderText (plot .cells) 0
-    ++ ascii "       -60            -30             0             +30            +60  rate (s/d)\n"
+    ++ axis
     ++ hiddenText (plot .hidden)

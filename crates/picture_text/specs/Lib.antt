@@ -2,3 +2,4 @@ pub mod Row
 pub mod Words
 pub mod Plot
 pub mod Picture
+pub mod Sizes

@@ -3,10 +3,10 @@ use mathlib.Core.Path.{ap₂, _∙_}
 use mathlib.Core.List.{List, _++_}
 use native.Mathlib.Omega.{arith}
 use lib.IntN.{ℤ}
-use lib.ListN.{take, length-append}
 use Rattle.lists.specs.Rest.{cut-take}
 use Rattle.model.specs.declared.micro.MicroId.{MicroId}
 use Rattle.text.specs.Laws.{both, from-blank}
+use Rattle.text.specs.Sizes.{beside}
 use Rattle.families_lines.specs.Lines.{linesOf, lastLine}
 use borrow.Author.Needs.{needs}
 use Rattle.families_lines.proofs.listing.Statement.{statement}
@@ -30,7 +30,7 @@ returns c =
     let n = c .before .before .cut in
     let p = c .before .«add-lines» .ensures in
     let q = c .«add-last» .ensures in
-    from-blank (c .before .before .before .blank .ensures .0) (both (p .0) (q .0)) (omega (arith, p .1, q .1, n .ensures, length-append (linesOf (take (n .result) (a .ids)) (take (n .result) (a .labels))) (lastLine (a .report))))
+    from-blank (c .before .before .before .blank .ensures .0) (both (p .0) (q .0)) (omega (arith, beside (p .1) (q .1) .is, n .ensures))
     ∙ ap₂ (λ (ids : List MicroId) (labels : List ℤ). linesOf ids labels ++ lastLine (a .report)) (cut-take (n .result) (a .n) 64 (a .ids) (n .ensures) (search needs)) (cut-take (n .result) (a .n) 64 (a .labels) (n .ensures) (search needs))
 
 pub listing-spec : {M : Type 1} → statement M

@@ -1,14 +1,10 @@
 -- `text_of` meets its contract. Assumes nothing.
-use Prim.Native.Nat.{ℕ}
-use mathlib.Core.Path.{sym, ap, _∙_}
-use mathlib.Core.List.{List, _++_}
+use mathlib.Core.Path.{sym, _∙_}
+use native.Mathlib.Omega.{arith}
 use borrow.Author.Needs.{needs}
-use lib.ListN.{take, length-map}
 use Rattle.families_session.specs.Told.{ranTold}
-use Rattle.text.specs.Text.{room}
-use Rattle.text.specs.Laws.{worded}
-use Rattle.families_picture.specs.Picture.{pictureText}
-use Rattle.families_picture.proofs.Texts.{whole, refused, other-dim, three}
+use Rattle.text.specs.Laws.{from-blank}
+use Rattle.families_picture.proofs.Texts.{refused, other-dim, three}
 use Rattle.families_picture.proofs.text_of.Statement.{statement}
 use Rattle.families_picture.proofs.text_of.Tie as tie
 
@@ -21,8 +17,7 @@ refused-requires c κs = search needs
 returns : tie.Need-returns
 returns c =
     let s = c .before .before .«session-of» in
-    let t = c .refused in
-    whole (t .result) (sym (length-map (t .result .bytes) _) ∙ t .ok .1 .1 .0 .1 .0 .1) (t .ensures ∙ refused (c .before .before .before .before .args .input .now) (ranTold (s .result)) (s .ensures) (c .before .if1 .taken))
+    c .refused .ensures ∙ refused (c .before .before .before .before .args .input .now) (ranTold (s .result)) (s .ensures) (c .before .if1 .taken)
 
 dim-requires : tie.Need-dim-requires
 dim-requires c κs = search needs
@@ -39,9 +34,8 @@ add-requires c κs = search needs
 returns-2 : tie.Need-returns-2
 returns-2 c =
     let s = c .before .before .before .before .before .before .before .«session-of» in
-    (worded (other-dim (c .before .before .before .before .before .before .before .before .before .args .input .now) (ranTold (s .result)) (s .ensures) (c .before .before .before .before .before .before .if1 .left) (λ d. c .before .before .before .if2 .taken (c .before .before .before .before .dim .ensures ∙ d)))
-    (c .add .ensures)) .is
-    ∙ ap (λ (t : List ℕ). take room (t ++ pictureText (c .before .before .before .before .before .before .before .before .before .args .input .now))) (c .before .before .blank .ensures .0)
+    from-blank (c .before .before .blank .ensures .0) (c .add .ensures) (omega arith)
+    ∙ other-dim (c .before .before .before .before .before .before .before .before .before .args .input .now) (ranTold (s .result)) (s .ensures) (c .before .before .before .before .before .before .if1 .left) (λ d. c .before .before .before .if2 .taken (c .before .before .before .before .dim .ensures ∙ d))
 
 drawn-requires : tie.Need-drawn-requires
 drawn-requires c κs = search needs
@@ -49,7 +43,7 @@ drawn-requires c κs = search needs
 returns-3 : tie.Need-returns-3
 returns-3 c =
     let s = c .before .before .before .before .before .«session-of» in
-    c .drawn .ensures ∙ ap (take room) (three (c .before .before .before .before .before .before .before .args .input .now) (ranTold (s .result)) (s .ensures) (c .before .before .before .before .if1 .left) (sym (c .before .before .dim .ensures) ∙ c .before .if2 .left))
+    c .drawn .ensures ∙ three (c .before .before .before .before .before .before .before .args .input .now) (ranTold (s .result)) (s .ensures) (c .before .before .before .before .if1 .left) (sym (c .before .before .dim .ensures) ∙ c .before .if2 .left)
 
 pub text-of-spec : {M : Type 1} → statement M
 text-of-spec =

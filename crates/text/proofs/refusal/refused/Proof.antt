@@ -1,12 +1,9 @@
 -- `refused` meets its contract. Assumes nothing.
-use mathlib.Core.List.{_++_}
 use native.Mathlib.Omega.{arith}
-use lib.ListN.{length-append}
 use borrow.Author.Needs.{needs}
 use Rattle.text.specs.Ascii.{ascii}
-use Rattle.text.specs.Decimal.{decimal}
 use Rattle.text.specs.Laws.{both, from-blank}
-use Rattle.text.specs.Sizes.{number-within}
+use Rattle.text.specs.Sizes.{piece, beside, number-within}
 use Rattle.text.proofs.refusal.refused.Statement.{statement}
 use Rattle.text.proofs.refusal.refused.Tie as tie
 
@@ -32,7 +29,7 @@ returns : tie.Need-returns
 returns c =
     let n = c .before .before .before .before .before .before .args .number in
     from-blank (c .before .before .before .before .before .blank .ensures .0) (both (both (c .before .before .before .add .ensures) (c .before .before .«add-number» .ensures)) (c .add2 .ensures))
-    (omega (arith, length-append (ascii "refused " ++ decimal n) (ascii "\n"), length-append (ascii "refused ") (decimal n), number-within n (omega arith)))
+    (let w = beside (beside (piece (ascii "refused ")) (number-within n (omega arith))) (piece (ascii "\n")) in omega (arith, w .is))
 
 pub refused-spec : {M : Type 1} → statement M
 refused-spec =
