@@ -114,43 +114,43 @@ record Kept (n dim : ℕ) (h : Holdings) : Type 0 where
 
 -- ---- a point taken
 figures-joined :
-    (n : ℕ) (s : State) (x : List Float) → Counts n (s .t) → Ascending Older (s .held .micros) → Kept n (s .params .dim) (s .held) →
-    Kept (n + 1) (s .params .dim) (joined s x)
+    (n : ℕ) (s : State) (x : List Float) → Counts n (s .t) → Ascending Older (s .held .micros) → Kept n (s .params .settings .dim) (s .held) →
+    Kept (n + 1) (s .params .settings .dim) (joined s x)
 figures-joined n s x f asc g =
     record {
-      means = each-map (λ (m : DbMicro). length (m .cf .mean) ≡ s .params .dim) (λ (m : DbMicro). length (m .cf .mean) ≡ s .params .dim) join
-          (λ (m : DbMicro) e. mean m e (isNeighbour (s .params .r) x m)) (s .held .micros) (g .means);
+      means = each-map (λ (m : DbMicro). length (m .cf .mean) ≡ s .params .settings .dim) (λ (m : DbMicro). length (m .cf .mean) ≡ s .params .settings .dim) join
+          (λ (m : DbMicro) e. mean m e (isNeighbour (s .params .settings .r) x m)) (s .held .micros) (g .means);
       weights = each-map (λ (m : DbMicro). Weighed n (m .cf .w) (m .last)) (λ (m : DbMicro). Weighed (n + 1) (m .cf .w) (m .last)) join
-          (λ (m : DbMicro) e. weight m e (isNeighbour (s .params .r) x m)) (s .held .micros) (g .weights);
+          (λ (m : DbMicro) e. weight m e (isNeighbour (s .params .settings .r) x m)) (s .held .micros) (g .weights);
       densities = each-more (λ (l : Link) w. w .0) (joined s x .links)
-          (gain-all (s .params .lambda) (s .t) n f (pairsOf (map idOf (neighboursOf s x)))
+          (gain-all (s .params .settings .lambda) (s .t) n f (pairsOf (map idOf (neighboursOf s x)))
           (pairs-ascend (map idOf (neighboursOf s x)) (neighbours-ascend s x asc)) (s .held .links)
           (each-more (λ (l : Link) (w : Weighed n (l .value) (l .last)). (later n (l .value) (l .last) (f .limit) w, (λ i. w))) (s .held .links)
           (g .densities)));
     }
   where
     join : DbMicro → DbMicro
-    join = absorbed (s .params .r) (s .params .lambda) (s .t) x
+    join = absorbed (s .params .settings .r) (s .params .settings .lambda) (s .t) x
 
     mean :
-        (m : DbMicro) → length (m .cf .mean) ≡ s .params .dim → (b : Bool) →
-        length (cond b (absorbs (s .params .lambda) (s .t) x m) m .cf .mean) ≡ s .params .dim
+        (m : DbMicro) → length (m .cf .mean) ≡ s .params .settings .dim → (b : Bool) →
+        length (cond b (absorbs (s .params .settings .lambda) (s .t) x m) m .cf .mean) ≡ s .params .settings .dim
     mean m e true = moved-length _ (m .cf .mean) x ∙ e
     mean m e false = e
 
     weight :
         (m : DbMicro) → Weighed n (m .cf .w) (m .last) → (b : Bool) →
-        Weighed (n + 1) (cond b (absorbs (s .params .lambda) (s .t) x m) m .cf .w) (cond b (absorbs (s .params .lambda) (s .t) x m) m .last)
-    weight m w true = regains n (m .cf .w) (m .last) (s .params .lambda) (s .t) f (above-0 (m .cf .w) (w .least)) (w .most)
+        Weighed (n + 1) (cond b (absorbs (s .params .settings .lambda) (s .t) x m) m .cf .w) (cond b (absorbs (s .params .settings .lambda) (s .t) x m) m .last)
+    weight m w true = regains n (m .cf .w) (m .last) (s .params .settings .lambda) (s .t) f (above-0 (m .cf .w) (w .least)) (w .most)
     weight m w false = later n (m .cf .w) (m .last) (f .limit) w
 
 figures-born :
-    (n : ℕ) (s : State) (x : List Float) → Counts n (s .t) → Ascending Older (s .held .micros) → Kept n (s .params .dim) (s .held) →
-    Kept (n + 1) (s .params .dim) (born s x)
+    (n : ℕ) (s : State) (x : List Float) → Counts n (s .t) → Ascending Older (s .held .micros) → Kept n (s .params .settings .dim) (s .held) →
+    Kept (n + 1) (s .params .settings .dim) (born s x)
 figures-born n s x f asc g =
     record {
-      means = each-append (λ (m : DbMicro). length (m .cf .mean) ≡ s .params .dim) (s .held .micros) (new ∷ []) (g .means)
-          (moved-length _ (empty (s .params .dim) .mean) x ∙ length-replicate (s .params .dim) nought, tt);
+      means = each-append (λ (m : DbMicro). length (m .cf .mean) ≡ s .params .settings .dim) (s .held .micros) (new ∷ []) (g .means)
+          (moved-length _ (empty (s .params .settings .dim) .mean) x ∙ length-replicate (s .params .settings .dim) nought, tt);
       weights = each-append (λ (m : DbMicro). Weighed (n + 1) (m .cf .w) (m .last)) (s .held .micros) (new ∷ [])
           (each-more (λ (m : DbMicro) w. later n (m .cf .w) (m .last) (f .limit) w) (s .held .micros) (g .weights))
           (gains-one n nought (s .t) f zero-least (zero-most n (f .limit)), tt);
@@ -158,37 +158,37 @@ figures-born n s x f asc g =
     }
   where
     new : DbMicro
-    new = newborn (s .params .dim) (record { 0 = s .held .next }) (s .t) x
+    new = newborn (s .params .settings .dim) (record { 0 = s .held .next }) (s .t) x
 
 figures-cleanup : (n dim : ℕ) (p : Params) (t : Float) (h : Holdings) → Kept n dim h → Kept n dim (cleanup p t h)
 figures-cleanup n dim p t h g =
     record {
-      means = each-retain (λ (m : DbMicro). length (m .cf .mean) ≡ dim) (microStays (p .lambda) (p .floor) t) (h .micros) (g .means);
-      weights = each-retain (λ (m : DbMicro). Weighed n (m .cf .w) (m .last)) (microStays (p .lambda) (p .floor) t) (h .micros) (g .weights);
-      densities = each-retain (λ (l : Link). Weighed n (l .value) (l .last)) (linkStays (p .lambda) (p .floor) t (cleanup p t h .micros)) (h .links)
+      means = each-retain (λ (m : DbMicro). length (m .cf .mean) ≡ dim) (microStays (p .settings .lambda) (p .floor) t) (h .micros) (g .means);
+      weights = each-retain (λ (m : DbMicro). Weighed n (m .cf .w) (m .last)) (microStays (p .settings .lambda) (p .floor) t) (h .micros) (g .weights);
+      densities = each-retain (λ (l : Link). Weighed n (l .value) (l .last)) (linkStays (p .settings .lambda) (p .floor) t (cleanup p t h .micros)) (h .links)
           (g .densities);
     }
 
 -- ---- the whole run
 record Both (n : ℕ) (s : State) : Type 0 where
   numbered : Numbered n (s .held)
-  kept : Kept n (s .params .dim) (s .held)
+  kept : Kept n (s .params .settings .dim) (s .held)
 
 both-taken : (n : ℕ) (s : State) (x : List Float) → Counts n (s .t) → hasPlace s x ≡ true → Both n s → Both (n + 1) (takenOf s x)
 both-taken n s x c e b =
     record {
       numbered = numbered-taken n s x (c .limit) (b .numbered);
-      kept = tick-cases dbstream (taking s (placed s x)) (nearestFor s x) (λ (u : State). Kept (n + 1) (u .params .dim) (u .held))
-          (figures-cleanup (n + 1) (s .params .dim) (s .params) (s .t ⊕ one) (placed s x) k) k;
+      kept = tick-cases dbstream (taking s (placed s x)) (nearestFor s x) (λ (u : State). Kept (n + 1) (u .params .settings .dim) (u .held))
+          (figures-cleanup (n + 1) (s .params .settings .dim) (s .params) (s .t ⊕ one) (placed s x) k) k;
     }
   where
-    k : Kept (n + 1) (s .params .dim) (placed s x)
+    k : Kept (n + 1) (s .params .settings .dim) (placed s x)
     k =
-        placed-cases (Kept (n + 1) (s .params .dim)) s x (λ q. figures-joined n s x c (b .numbered .ascending) (b .kept))
+        placed-cases (Kept (n + 1) (s .params .settings .dim)) s x (λ q. figures-joined n s x c (b .numbered .ascending) (b .kept))
         (λ q. figures-born n s x c (b .numbered .ascending) (b .kept))
 
 pub figures : (p : Settings) (xs : List (List Float)) → Figures (acceptedIn (told p xs)) (after p xs)
 figures p xs =
-    let k : Kept (acceptedIn (told p xs)) (after p xs .params .dim) (after p xs .held) =
+    let k : Kept (acceptedIn (told p xs)) (after p xs .params .settings .dim) (after p xs .held) =
     always dbstream hasPlace Both both-taken p (record { numbered = numbered-fresh p; kept = record { means = tt; weights = tt; densities = tt } }) xs .kept in
     record { means = k .means; weights = k .weights; densities = k .densities }

@@ -75,7 +75,7 @@ pub record Joining (s : State) (x : List Float) : Type 0 where
 pub neighbours-ascend : (s : State) (x : List Float) → Ascending Older (s .held .micros) → Ascending Smaller (map idOf (neighboursOf s x))
 neighbours-ascend s x u =
     ascending-map Older Smaller idOf (λ (a b : DbMicro) (h : Older a b). h) (neighboursOf s x)
-    (ascending-retain Older (isNeighbour (s .params .r) x) (s .held .micros) u)
+    (ascending-retain Older (isNeighbour (s .params .settings .r) x) (s .held .micros) u)
 
 pub joining : (s : State) (x : List Float) → Ascending Older (s .held .micros) → LinksHeld (s .held .micros) (s .held .links) → Joining s x
 joining s x u g =
@@ -90,13 +90,13 @@ joining s x u g =
 
     live : (a : ℕ) → Live (s .held .micros) a → Live (joined s x .micros) a
     live a l =
-        let f : DbMicro → DbMicro = absorbed (s .params .r) (s .params .lambda) (s .t) x in
-        (f (l .0), in-map f (s .held .micros) (l .0) (l .1), ap (λ (i : MicroId). i .0) (absorbed-id (s .params .r) (s .params .lambda) (s .t) x (l .0)) ∙ l .2)
+        let f : DbMicro → DbMicro = absorbed (s .params .settings .r) (s .params .settings .lambda) (s .t) x in
+        (f (l .0), in-map f (s .held .micros) (l .0) (l .1), ap (λ (i : MicroId). i .0) (absorbed-id (s .params .settings .r) (s .params .settings .lambda) (s .t) x (l .0)) ∙ l .2)
 
     known : (a : MicroId) → In a (map idOf (neighboursOf s x)) → Live (joined s x .micros) (a .0)
     known a i =
         let m = map-in idOf (neighboursOf s x) a i in
-        live (a .0) (m .0, in-retain (isNeighbour (s .params .r) x) (s .held .micros) (m .0) (m .1), ap (λ (i : MicroId). i .0) (sym (m .2)))
+        live (a .0) (m .0, in-retain (isNeighbour (s .params .settings .r) x) (s .held .micros) (m .0) (m .1), ap (λ (i : MicroId). i .0) (sym (m .2)))
 
 -- all of `FromFresh` but the clock
 pub record Numbered (n : ℕ) (h : Holdings) : Type 0 where
@@ -111,10 +111,10 @@ joined-ascends s x u =
     (subst (λ (k : MicroId). a .id .0 < k .0) (sym (keeps b)) h)) (s .held .micros) u
   where
     f : DbMicro → DbMicro
-    f = absorbed (s .params .r) (s .params .lambda) (s .t) x
+    f = absorbed (s .params .settings .r) (s .params .settings .lambda) (s .t) x
 
     keeps : (m : DbMicro) → f m .id ≡ m .id
-    keeps m = absorbed-id (s .params .r) (s .params .lambda) (s .t) x m
+    keeps m = absorbed-id (s .params .settings .r) (s .params .settings .lambda) (s .t) x m
 
 numbered-joined : (n : ℕ) (s : State) (x : List Float) → Numbered n (s .held) → Numbered (n + 1) (joined s x)
 numbered-joined n s x g =
@@ -122,14 +122,14 @@ numbered-joined n s x g =
       ascending = joined-ascends s x (g .ascending);
       belowNext = each-map (λ (m : DbMicro). m .id .0 < s .held .next) (λ (m : DbMicro). m .id .0 < s .held .next) f
           (λ (m : DbMicro) (h : m .id .0 < s .held .next). subst (λ (k : MicroId). k .0 < s .held .next)
-          (sym (absorbed-id (s .params .r) (s .params .lambda) (s .t) x m)) h) (s .held .micros) (g .belowNext);
+          (sym (absorbed-id (s .params .settings .r) (s .params .settings .lambda) (s .t) x m)) h) (s .held .micros) (g .belowNext);
       nextLimit = (let l : s .held .next ≤ n = g .nextLimit in omega arith);
-      links = fold-gain (s .params .lambda) (s .t) (LinksHeld (joined s x .micros)) (GoodPair (joined s x .micros))
-          (one-gain (s .params .lambda) (s .t) (joined s x .micros)) (pairsOf (map idOf (neighboursOf s x))) (s .held .links) (j .pairs) (j .links);
+      links = fold-gain (s .params .settings .lambda) (s .t) (LinksHeld (joined s x .micros)) (GoodPair (joined s x .micros))
+          (one-gain (s .params .settings .lambda) (s .t) (joined s x .micros)) (pairsOf (map idOf (neighboursOf s x))) (s .held .links) (j .pairs) (j .links);
     }
   where
     f : DbMicro → DbMicro
-    f = absorbed (s .params .r) (s .params .lambda) (s .t) x
+    f = absorbed (s .params .settings .r) (s .params .settings .lambda) (s .t) x
 
     j : Joining s x
     j = joining s x (g .ascending) (g .links)
@@ -149,7 +149,7 @@ numbered-born n s x small g =
     }
   where
     new : DbMicro
-    new = newborn (s .params .dim) (record { 0 = s .held .next }) (s .t) x
+    new = newborn (s .params .settings .dim) (record { 0 = s .held .next }) (s .t) x
 
     grows : (s .held .next + 1) % 2 ^ 64 ≡ s .held .next + 1
     grows = let l : s .held .next ≤ n = g .nextLimit in omega arith
@@ -172,20 +172,20 @@ numbered-cleanup n p t h g =
     }
   where
     stays : DbMicro → Bool
-    stays = microStays (p .lambda) (p .floor) t
+    stays = microStays (p .settings .lambda) (p .floor) t
 
     ms : List DbMicro
     ms = retain stays (h .micros)
 
     keep : Link → Bool
-    keep = linkStays (p .lambda) (p .floor) t ms
+    keep = linkStays (p .settings .lambda) (p .floor) t ms
 
     is-live : (a : MicroId) → isHeld ms a ≡ true → Live ms (a .0)
     is-live a e = let m = any-in (λ (m : DbMicro). eqb (m .id .0) (a .0)) ms e in (m .0, m .1, eqb-true (m .0 .id .0) (a .0) (m .2))
 
     live-ends : (l : Link) → keep l ≡ true → Held ms l
     live-ends l e =
-        let b = and-true (isHeld ms (l .lo)) (isHeld ms (l .hi)) (not (lt (fadedLink (p .lambda) t l) (p .floor))) e in
+        let b = and-true (isHeld ms (l .lo)) (isHeld ms (l .hi)) (not (lt (fadedLink (p .settings .lambda) t l) (p .floor))) e in
         (is-live (l .lo) (b .0), is-live (l .hi) (b .1))
 
 -- ---- a point taken

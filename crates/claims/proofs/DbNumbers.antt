@@ -32,10 +32,10 @@ onward-joined : (s : State) (x : List Float) → Onward (s .held) (joined s x)
 onward-joined s x =
     record {
       next = omega arith;
-      old = λ a h l. let m = map-in (absorbed (s .params .r) (s .params .lambda) (s .t) x) (s .held .micros) (l .0) (l .1) in (
+      old = λ a h l. let m = map-in (absorbed (s .params .settings .r) (s .params .settings .lambda) (s .t) x) (s .held .micros) (l .0) (l .1) in (
         m .0,
         m .1,
-        ap (λ (i : MicroId). i .0) (sym (absorbed-id (s .params .r) (s .params .lambda) (s .t) x (m .0)))
+        ap (λ (i : MicroId). i .0) (sym (absorbed-id (s .params .settings .r) (s .params .settings .lambda) (s .t) x (m .0)))
             ∙ ap (λ (u : DbMicro). u .id .0) (sym (m .2)) ∙ l .2,
       );
     }
@@ -51,7 +51,7 @@ onward-born n s x f small =
     }
   where
     new : DbMicro
-    new = newborn (s .params .dim) (record { 0 = s .held .next }) (s .t) x
+    new = newborn (s .params .settings .dim) (record { 0 = s .held .next }) (s .t) x
 
 onward-taken : (n : ℕ) (s : State) (x : List Float) → Numbered n (s .held) → n ≤ clockMost → Onward (s .held) (takenOf s x .held)
 onward-taken n s x f small =
@@ -59,7 +59,7 @@ onward-taken n s x f small =
     (record {
       next = o .next;
       old =
-          λ a h l. o .old a h (l .0, in-retain (microStays (s .params .lambda) (s .params .floor) (s .t ⊕ one)) (placed s x .micros) (l .0) (l .1), l .2);
+          λ a h l. o .old a h (l .0, in-retain (microStays (s .params .settings .lambda) (s .params .floor) (s .t ⊕ one)) (placed s x .micros) (l .0) (l .1), l .2);
     }) o
   where
     o : Onward (s .held) (placed s x)

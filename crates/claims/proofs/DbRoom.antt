@@ -208,17 +208,17 @@ Few h = length (h .micros) ≤ microsMost
 
 few-placed : (s : State) (x : List Float) → hasPlace s x ≡ true → Few (s .held) → Few (placed s x)
 few-placed s x e h =
-    placed-cases Few s x (λ q. omega (arith, length-map (s .held .micros) (absorbed (s .params .r) (s .params .lambda) (s .t) x)))
+    placed-cases Few s x (λ q. omega (arith, length-map (s .held .micros) (absorbed (s .params .settings .r) (s .params .settings .lambda) (s .t) x)))
     (λ q.
     let l : length (s .held .micros) < microsMost =
     ltb-true (length (s .held .micros)) microsMost (sym (ap (λ (b : Bool). b || ltb (length (s .held .micros)) microsMost) q) ∙ e) in
-    omega (arith, length-append (s .held .micros) (newborn (s .params .dim) (record { 0 = s .held .next }) (s .t) x ∷ [])))
+    omega (arith, length-append (s .held .micros) (newborn (s .params .settings .dim) (record { 0 = s .held .next }) (s .t) x ∷ [])))
 
 few-taken : (s : State) (x : List Float) → hasPlace s x ≡ true → Few (s .held) → Few (takenOf s x .held)
 few-taken s x e h =
     let f : Few (placed s x) = few-placed s x e h in
     tick-cases dbstream (taking s (placed s x)) (nearestFor s x) (λ (u : State). Few (u .held))
-    (omega (arith, f, retain-length (microStays (s .params .lambda) (s .params .floor) (s .t ⊕ one)) (placed s x .micros))) f
+    (omega (arith, f, retain-length (microStays (s .params .settings .lambda) (s .params .floor) (s .t ⊕ one)) (placed s x .micros))) f
 
 pub at-most-64 : (p : Settings) (xs : List (List Float)) → length (after p xs .held .micros) ≤ microsMost
 at-most-64 p xs = always dbstream hasPlace (λ (n : ℕ) (s : State). Few (s .held)) (λ n s x c e. few-taken s x e) p (omega arith) xs
@@ -230,8 +230,8 @@ fits p xs =
       pairs = pairs-are;
       links = most (length (s .held .micros)) (length (s .held .links)) few pairs-are;
       number = (let a : s .held .next ≤ n = f .nextLimit in let b : n ≤ clockMost = f .clock .limit in omega arith);
-      roomForAll = λ x. gains-room (s .params .lambda) (s .t) (joined s x .micros) (joined-ascends s x (f .ascending))
-          (omega (arith, few, length-map (s .held .micros) (absorbed (s .params .r) (s .params .lambda) (s .t) x)))
+      roomForAll = λ x. gains-room (s .params .settings .lambda) (s .t) (joined s x .micros) (joined-ascends s x (f .ascending))
+          (omega (arith, few, length-map (s .held .micros) (absorbed (s .params .settings .r) (s .params .settings .lambda) (s .t) x)))
           (pairsOf (map idOf (neighboursOf s x))) (s .held .links) (join x .pairs) (join x .links);
     }
   where

@@ -31,13 +31,13 @@ reaches : (low high v : Float) → T (le low high) → le high v ≡ true → le
 reaches low high v h e = is-true (le low v) (le-trans-all low high v h (subst T (sym e) tt))
 
 module _ (alpha minWeight : Float) (labels : List ℤ) (s : State)
-    (lighter : T (le minWeight (s .params .minWeight))) (looser : T (le (alpha ⊗ minWeight) (s .params .alpha ⊗ s .params .minWeight)))
+    (lighter : T (le minWeight (s .params .settings .«min_weight»))) (looser : T (le (alpha ⊗ minWeight) (s .params .settings .alpha ⊗ s .params .settings .«min_weight»)))
     (asc : Ascending Older (s .held .micros)) (few : length (s .held .micros) ≤ microsMost) where
   abbrev u : State
   u = clusterOf (twin alpha minWeight labels s)
 
   strong-stays : (m : DbMicro) → Strong s m → Strong u m
-  strong-stays m e = reaches minWeight (s .params .minWeight) (fadedWeight (s .params .lambda) (s .t) m) lighter e
+  strong-stays m e = reaches minWeight (s .params .settings .«min_weight») (fadedWeight (s .params .settings .lambda) (s .t) m) lighter e
 
   number-stays : (a : ℕ) → StrongNumber (clusterOf s) a → StrongNumber u a
   number-stays a n = record { micro = n .micro; held = n .held; number = n .number; strong = strong-stays (n .micro) (n .strong) }
@@ -49,7 +49,7 @@ module _ (alpha minWeight : Float) (labels : List ℤ) (s : State)
         held = t .held;
         lo = t .lo;
         hi = t .hi;
-        dense = reaches (alpha ⊗ minWeight) (s .params .alpha ⊗ s .params .minWeight) (fadedLink (s .params .lambda) (s .t) (t .link)) looser (t .dense);
+        dense = reaches (alpha ⊗ minWeight) (s .params .settings .alpha ⊗ s .params .settings .«min_weight») (fadedLink (s .params .settings .lambda) (s .t) (t .link)) looser (t .dense);
         from = number-stays a (t .from);
         to = number-stays b (t .to);
       }
@@ -103,9 +103,9 @@ module _ (alpha minWeight : Float) (labels : List ℤ) (s : State)
 pub stay-together : (p q : Settings) → Laxer p q → (xs : List (List Float)) → StayTogether (clusterOf (after p xs)) (clusterOf (after q xs))
 stay-together p q laxer xs =
     subst (λ (v : State). StayTogether (clusterOf s) (clusterOf v)) (sym (twins p q laxer xs .stream))
-    (twins-stay (q .alpha) (q .minWeight) (twins p q laxer xs .labels) s
-    (subst (λ (c : Params). T (le (q .minWeight) (c .minWeight))) (sym same) (laxer .minWeight))
-    (subst (λ (c : Params). T (le (q .alpha ⊗ q .minWeight) (c .alpha ⊗ c .minWeight))) (sym same) (laxer .density))
+    (twins-stay (q .alpha) (q .«min_weight») (twins p q laxer xs .labels) s
+    (subst (λ (c : Params). T (le (q .«min_weight») (c .settings .«min_weight»))) (sym same) (laxer .minWeight))
+    (subst (λ (c : Params). T (le (q .alpha ⊗ q .«min_weight») (c .settings .alpha ⊗ c .settings .«min_weight»))) (sym same) (laxer .density))
     (from-fresh p xs .ascending) (at-most-64 p xs))
   where
     s : State

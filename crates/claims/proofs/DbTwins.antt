@@ -1,8 +1,7 @@
 -- A stream's alpha, min_weight and labels play no part in an insert: two streams that differ in nothing else go the same way.
-use mathlib.Core.Path.{_≡_, refl, sym, ap, ap₂, _∙_, subst}
+use mathlib.Core.Path.{_≡_, refl, sym, ap, ap₂, subst}
 use mathlib.Core.Bool.{Bool, true, false, cond}
 use mathlib.Core.List.{List, [], _∷_}
-use Prim.Native.Nat.{ℕ}
 use lib.IntN.{ℤ}
 use lib.Ieee.{Float}
 use Rattle.model.specs.Answers.{isDone}
@@ -11,22 +10,14 @@ use Rattle.model.specs.Run.{runOf, answersOf}
 use Rattle.model.specs.Stream.{insertBy}
 use Rattle.model.specs.DbState.{Settings, State}
 use Rattle.model.specs.Dbstream.{fresh, takenOf, insertOf}
-use Rattle.claims.specs.DbClaims.{Laxer, SameHoldings, after, told}
+use Rattle.claims.specs.DbClaims.{withThresholds, Laxer, SameHoldings, after, told}
 
 module _ (alpha minWeight : Float) where
   -- s with another alpha, min_weight and other labels
   abbrev pub twin : List ℤ → State → State
   twin labels s =
       record {
-        params = record {
-          dim = s .params .dim;
-          r = s .params .r;
-          lambda = s .params .lambda;
-          alpha = alpha;
-          minWeight = minWeight;
-          tGap = s .params .tGap;
-          floor = s .params .floor;
-        };
+        params = record { settings = withThresholds (s .params .settings) alpha minWeight; «t_gap» = s .params .«t_gap»; floor = s .params .floor };
         t = s .t;
         held = s .held;
         labels = labels;
@@ -62,22 +53,18 @@ module _ (alpha minWeight : Float) where
       record { labels = h .labels; answers = ap₂ _∷_ (a .answer) (h .answers); stream = h .stream }
 
 module _ (p q : Settings) (laxer : Laxer p q) where
-  abbrev with : (dim : ℕ) (r lambda : Float) → State
-  with dim r lambda = fresh (record { dim = dim; r = r; lambda = lambda; alpha = q .alpha; minWeight = q .minWeight })
+  twin-fresh : fresh q ≡ twin (q .alpha) (q .«min_weight») [] (fresh p)
+  twin-fresh = sym (ap fresh (laxer .alike))
 
-  twin-fresh : fresh q ≡ twin (q .alpha) (q .minWeight) [] (fresh p)
-  twin-fresh =
-      sym (ap (λ (d : ℕ). with d (p .r) (p .lambda)) (laxer .dim) ∙ ap (λ (r : Float). with (q .dim) r (p .lambda)) (laxer .r) ∙ ap (with (q .dim) (q .r)) (laxer .lambda))
-
-  pub twins : (xs : List (List Float)) → TwinRun (q .alpha) (q .minWeight) (fresh p) (fresh q) xs
-  twins xs = twin-run (q .alpha) (q .minWeight) xs [] (fresh p) (fresh q) twin-fresh
+  pub twins : (xs : List (List Float)) → TwinRun (q .alpha) (q .«min_weight») (fresh p) (fresh q) xs
+  twins xs = twin-run (q .alpha) (q .«min_weight») xs [] (fresh p) (fresh q) twin-fresh
 
   pub same-refusals : (xs : List (List Float)) → told p xs ≡ told q xs
   same-refusals xs = sym (twins xs .answers)
 
   pub same-holdings : (xs : List (List Float)) → SameHoldings (after p xs) (after q xs)
   same-holdings xs =
-      let e : after q xs ≡ twin (q .alpha) (q .minWeight) (twins xs .labels) (after p xs) = twins xs .stream in
+      let e : after q xs ≡ twin (q .alpha) (q .«min_weight») (twins xs .labels) (after p xs) = twins xs .stream in
       record {
         clock = sym (ap (λ (u : State). u .t) e);
         next = sym (ap (λ (u : State). u .held .next) e);

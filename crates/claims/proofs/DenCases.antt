@@ -18,7 +18,7 @@ pub placed-cases :
     ((b : Near Micro) → Tried s x (s .held .potential) b → P (pooled (set (s .held .potential) (b .place) (b .micro)) (s .held .outliers))) →
     ((b : Near Micro) → Tried s x (s .held .outliers) b → P (pooled (s .held .potential ++ b .micro ∷ []) (without (b .place) (s .held .outliers)))) →
     ((b : Near Micro) → Tried s x (s .held .outliers) b → P (pooled (s .held .potential) (set (s .held .outliers) (b .place) (b .micro)))) →
-    (isAbsorbed s x ≡ false → P (pooled (s .held .potential) (s .held .outliers ++ newborn (s .params .dim) (s .t) x ∷ []))) → P (placed s x)
+    (isAbsorbed s x ≡ false → P (pooled (s .held .potential) (s .held .outliers ++ newborn (s .params .settings .dim) (s .t) x ∷ []))) → P (placed s x)
 unfolding placed
 placed-cases P s x old up stays new =
     go (trialIn s x (s .held .potential)) (trialIn s x (s .held .outliers)) (tried s x (s .held .potential)) (tried s x (s .held .outliers)) new
@@ -32,7 +32,7 @@ placed-cases P s x old up stays new =
 
     go :
         (p o : Option (Near Micro)) → TriedBy s x (s .held .potential) p → TriedBy s x (s .held .outliers) o →
-        ((isThere p || isThere o) ≡ false → P (pooled (s .held .potential) (s .held .outliers ++ newborn (s .params .dim) (s .t) x ∷ []))) →
+        ((isThere p || isThere o) ≡ false → P (pooled (s .held .potential) (s .held .outliers ++ newborn (s .params .settings .dim) (s .t) x ∷ []))) →
         P (placedBy s x p o)
     go (some b) o f g h = old b f
     go none (some b) f g h = grown b g (le (s .params .bm) (b .micro .cf .w))

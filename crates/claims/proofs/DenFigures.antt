@@ -58,32 +58,32 @@ kept-newborn n dim t x c =
 abbrev Both : (n dim : ℕ) → Holdings → Type 0
 Both n dim h = Each (Kept n dim) (h .potential) × Each (Kept n dim) (h .outliers)
 
-module _ (n : ℕ) (s : State) (x : List Float) (c : Counts n (s .t)) (g : Both n (s .params .dim) (s .held)) where
+module _ (n : ℕ) (s : State) (x : List Float) (c : Counts n (s .t)) (g : Both n (s .params .settings .dim) (s .held)) where
   abbrev All : List Micro → Type 0
-  All = Each (Kept (n + 1) (s .params .dim))
+  All = Each (Kept (n + 1) (s .params .settings .dim))
 
-  all-later : (l : List Micro) → Each (Kept n (s .params .dim)) l → All l
-  all-later l e = each-more (λ (m : Micro) k. kept-later n (s .params .dim) m (c .limit) k) l e
+  all-later : (l : List Micro) → Each (Kept n (s .params .settings .dim)) l → All l
+  all-later l e = each-more (λ (m : Micro) k. kept-later n (s .params .settings .dim) m (c .limit) k) l e
 
-  grown : (l : List Micro) (b : Near Micro) → Each (Kept n (s .params .dim)) l → Tried s x l b → Kept (n + 1) (s .params .dim) (b .micro)
+  grown : (l : List Micro) (b : Near Micro) → Each (Kept n (s .params .settings .dim)) l → Tried s x l b → Kept (n + 1) (s .params .settings .dim) (b .micro)
   grown l b e t =
-      subst (Kept (n + 1) (s .params .dim)) (sym (t .grown))
-      (kept-absorbing n (s .params .dim) (s .params .lambda) (s .t) x (t .old) c
-      (each-in (Kept n (s .params .dim)) l (t .old) e (at-in l (b .place) (t .old) (t .at))))
+      subst (Kept (n + 1) (s .params .settings .dim)) (sym (t .grown))
+      (kept-absorbing n (s .params .settings .dim) (s .params .settings .lambda) (s .t) x (t .old) c
+      (each-in (Kept n (s .params .settings .dim)) l (t .old) e (at-in l (b .place) (t .old) (t .at))))
 
-  both-placed : Both (n + 1) (s .params .dim) (placed s x)
+  both-placed : Both (n + 1) (s .params .settings .dim) (placed s x)
   both-placed =
-      placed-cases (Both (n + 1) (s .params .dim)) s x
-      (λ b t. (each-set (Kept (n + 1) (s .params .dim)) (s .held .potential) (b .place) (b .micro) (grown (s .held .potential) b (g .0) t) potential, outliers))
+      placed-cases (Both (n + 1) (s .params .settings .dim)) s x
+      (λ b t. (each-set (Kept (n + 1) (s .params .settings .dim)) (s .held .potential) (b .place) (b .micro) (grown (s .held .potential) b (g .0) t) potential, outliers))
       (λ b t. (
-        each-append (Kept (n + 1) (s .params .dim)) (s .held .potential) (b .micro ∷ []) potential (grown (s .held .outliers) b (g .1) t, tt),
-        each-without (Kept (n + 1) (s .params .dim)) (s .held .outliers) (b .place) outliers,
+        each-append (Kept (n + 1) (s .params .settings .dim)) (s .held .potential) (b .micro ∷ []) potential (grown (s .held .outliers) b (g .1) t, tt),
+        each-without (Kept (n + 1) (s .params .settings .dim)) (s .held .outliers) (b .place) outliers,
       ))
-      (λ b t. (potential, each-set (Kept (n + 1) (s .params .dim)) (s .held .outliers) (b .place) (b .micro) (grown (s .held .outliers) b (g .1) t) outliers))
+      (λ b t. (potential, each-set (Kept (n + 1) (s .params .settings .dim)) (s .held .outliers) (b .place) (b .micro) (grown (s .held .outliers) b (g .1) t) outliers))
       (λ e. (
         potential,
-        each-append (Kept (n + 1) (s .params .dim)) (s .held .outliers) (newborn (s .params .dim) (s .t) x ∷ []) outliers
-            (kept-newborn n (s .params .dim) (s .t) x c, tt),
+        each-append (Kept (n + 1) (s .params .settings .dim)) (s .held .outliers) (newborn (s .params .settings .dim) (s .t) x ∷ []) outliers
+            (kept-newborn n (s .params .settings .dim) (s .t) x c, tt),
       ))
     where
       potential : All (s .held .potential)
@@ -92,16 +92,16 @@ module _ (n : ℕ) (s : State) (x : List Float) (c : Counts n (s .t)) (g : Both 
       outliers : All (s .held .outliers)
       outliers = all-later (s .held .outliers) (g .1)
 
-  both-taken : Both (n + 1) (takenOf s x .params .dim) (takenOf s x .held)
+  both-taken : Both (n + 1) (takenOf s x .params .settings .dim) (takenOf s x .held)
   both-taken =
-      tick-cases denstream (taking s (placed s x)) (nearestFor s x) (λ (u : State). Both (n + 1) (u .params .dim) (u .held)) (
-        each-retain (Kept (n + 1) (s .params .dim)) (potentialStays (s .params) (s .t ⊕ one)) (placed s x .potential) (both-placed .0),
-        each-retain (Kept (n + 1) (s .params .dim)) (outlierStays (s .params) (s .t ⊕ one)) (placed s x .outliers) (both-placed .1),
+      tick-cases denstream (taking s (placed s x)) (nearestFor s x) (λ (u : State). Both (n + 1) (u .params .settings .dim) (u .held)) (
+        each-retain (Kept (n + 1) (s .params .settings .dim)) (potentialStays (s .params) (s .t ⊕ one)) (placed s x .potential) (both-placed .0),
+        each-retain (Kept (n + 1) (s .params .settings .dim)) (outlierStays (s .params) (s .t ⊕ one)) (placed s x .outliers) (both-placed .1),
       ) both-placed
 
 -- ---- the whole run
 pub figures : (p : Settings) (xs : List (List Float)) → Figures (acceptedIn (told p xs)) (after p xs)
 figures p xs =
-    let b : Both (acceptedIn (told p xs)) (after p xs .params .dim) (after p xs .held) =
-    always denstream hasPlace (λ (n : ℕ) (s : State). Both n (s .params .dim) (s .held)) (λ n s x c e g. both-taken n s x c g) p (tt, tt) xs in
+    let b : Both (acceptedIn (told p xs)) (after p xs .params .settings .dim) (after p xs .held) =
+    always denstream hasPlace (λ (n : ℕ) (s : State). Both n (s .params .settings .dim) (s .held)) (λ n s x c e g. both-taken n s x c g) p (tt, tt) xs in
     record { potential = b .0; outliers = b .1 }

@@ -44,7 +44,7 @@ few-placed s x e h =
     let l : length (s .held .potential) + length (s .held .outliers) < microsMost =
     ltb-true (length (s .held .potential) + length (s .held .outliers)) microsMost
     (sym (ap (λ (b : Bool). b || ltb (length (s .held .potential) + length (s .held .outliers)) microsMost) q) ∙ e) in
-    omega (arith, length-append (s .held .outliers) (newborn (s .params .dim) (s .t) x ∷ [])))
+    omega (arith, length-append (s .held .outliers) (newborn (s .params .settings .dim) (s .t) x ∷ [])))
 
 few-taken : (s : State) (x : List Float) → hasPlace s x ≡ true → Few (s .held) → Few (takenOf s x .held)
 few-taken s x e h =

@@ -45,7 +45,7 @@ module _ (s : State) (labelled : s .labels ≡ labelsOf s) (few : length (s .hel
   n = length ws
 
   n-is : n ≡ length (s .held .potential)
-  n-is = length-map (s .held .potential) (fadedWeight (s .params .lambda) (s .t))
+  n-is = length-map (s .held .potential) (fadedWeight (s .params .settings .lambda) (s .t))
 
   low : n ≤ 64
   low = omega (arith, n-is, few)
@@ -81,24 +81,24 @@ module _ (s : State) (labelled : s .labels ≡ labelsOf s) (few : length (s .hel
 
   -- ---- which places count
   abbrev mask : List Bool
-  mask = countedBy (s .params .mu) ws (joinsOf s)
+  mask = countedBy (s .params .settings .mu) ws (joinsOf s)
 
   mask-length : length mask ≡ n
   unfolding countedBy
   mask-length = length-map (take n roots) _ ∙ length-take-le n roots (omega (arith, low, tells .count))
 
   counted : ℕ → Bool
-  counted v = le (s .params .mu) (sumFrom nought v roots ws)
+  counted v = le (s .params .settings .mu) (sumFrom nought v roots ws)
 
-  mask-at : (i : ℕ) → i < n → getD mask i false ≡ le (s .params .mu) (sumAt i)
+  mask-at : (i : ℕ) → i < n → getD mask i false ≡ le (s .params .settings .mu) (sumAt i)
   unfolding countedBy sumAt counted
   mask-at i h =
       let l : length (take n roots) ≡ n = length-take-le n roots (omega (arith, low, tells .count)) in
       let a = at-there (take n roots) i (omega arith) in
       there-test counted (take n roots) i (a .0) (a .1) ∙ ap counted (sym (at-getD (take n roots) i (a .0) 0 (a .1)) ∙ getD-take n roots i 0 h)
 
-  counts : (i : ℕ) (v : Float) → i < n → Weighs s i v → getD mask i false ≡ le (s .params .mu) v
-  counts i v h w = mask-at i h ∙ ap (le (s .params .mu)) (sym (weighs i h v .0 w))
+  counts : (i : ℕ) (v : Float) → i < n → Weighs s i v → getD mask i false ≡ le (s .params .settings .mu) v
+  counts i v h w = mask-at i h ∙ ap (le (s .params .settings .mu)) (sym (weighs i h v .0 w))
 
   labels-are : s .labels ≡ label.labelsOf mask roots
   unfolding labelsOf labelsBy
@@ -111,7 +111,7 @@ module _ (s : State) (labelled : s .labels ≡ labelsOf s) (few : length (s .hel
   alike : (i j : ℕ) → i < n → j < n → OneGroup s i j → getD mask i false ≡ getD mask j false
   unfolding sumAt
   alike i j h k c =
-      mask-at i h ∙ ap (λ (v : ℕ). le (s .params .mu) (sumFrom nought v roots ws)) (tells .equal i j (omega (arith, low)) (omega (arith, low)) .1 (chains i j .1 c)) ∙ sym (mask-at j k)
+      mask-at i h ∙ ap (λ (v : ℕ). le (s .params .settings .mu) (sumFrom nought v roots ws)) (tells .equal i j (omega (arith, low)) (omega (arith, low)) .1 (chains i j .1 c)) ∙ sym (mask-at j k)
 
   pub labels-tell : LabelsTellGroups s
   labels-tell =

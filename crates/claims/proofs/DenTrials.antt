@@ -43,7 +43,7 @@ module _ {A : Type 0} (distance : A → Float) where
 pub record Tried (s : State) (x : List Float) (pool : List Micro) (b : Near Micro) : Type 0 where
   pub old : Micro
   pub at : At pool (b .place) old
-  pub grown : b .micro ≡ absorbing (s .params .lambda) (s .t) x old
+  pub grown : b .micro ≡ absorbing (s .params .settings .lambda) (s .t) x old
 
 abbrev pub TriedBy : State → List Float → List Micro → Option (Near Micro) → Type 0
 TriedBy s x pool none = Unit {0}
@@ -52,7 +52,7 @@ TriedBy s x pool (some b) = Tried s x pool b
 pub tried : (s : State) (x : List Float) (pool : List Micro) → TriedBy s x pool (trialIn s x pool)
 unfolding nearestOf
 tried s x [] = tt
-tried s x (m ∷ pool) = go (stands (s .params .eps2) (absorbing (s .params .lambda) (s .t) x (best .micro)))
+tried s x (m ∷ pool) = go (stands (s .params .eps2) (absorbing (s .params .settings .lambda) (s .t) x (best .micro)))
   where
     dist : Micro → Float
     dist m = distanceTo x (m .cf)
@@ -60,6 +60,6 @@ tried s x (m ∷ pool) = go (stands (s .params .eps2) (absorbing (s .params .lam
     best : Near Micro
     best = nearestFrom dist (nearAt dist 0 m) 1 pool
 
-    go : (t : Bool) → TriedBy s x (m ∷ pool) (cond t (some (record { place = best .place; micro = absorbing (s .params .lambda) (s .t) x (best .micro); dist = best .dist })) none)
+    go : (t : Bool) → TriedBy s x (m ∷ pool) (cond t (some (record { place = best .place; micro = absorbing (s .params .settings .lambda) (s .t) x (best .micro); dist = best .dist })) none)
     go true = record { old = best .micro; at = from-at dist (m ∷ []) pool (nearAt dist 0 m) refl; grown = refl }
     go false = tt

@@ -34,7 +34,7 @@ den-yes p e =
     let r = opens-yes denstream p (refl, (refl, (refl, (refl, (refl, (refl, tt)))))) (ap isOpen e) in
     (r .1 .1 .0, r .1 .1 .1 .1 .1 .0)
 
-pub gap-whole : (p : db.Settings) → asked dbstream p ≡ Open → Period (2 ^ 32) (db.paramsOf p .tGap)
+pub gap-whole : (p : db.Settings) → asked dbstream p ≡ Open → Period (2 ^ 32) (db.paramsOf p .«t_gap»)
 gap-whole p e = t-gap-whole (p .lambda) (db-lambda p e)
 
 pub prune-whole : (p : den.Settings) → asked denstream p ≡ Open → Period (2 ^ 38) (den.paramsOf p .tp)

@@ -70,13 +70,15 @@ pub record LabelsTellFamilies (s : State) : Type 0 where
   pub fromZero : (i c m : ℕ) → At (s .labels) i (pos c) → m < c → (j : ℕ) × (j < i) × At (s .labels) j (pos m)
 
 -- ---- two DBSTREAMs
--- alike in dim, r and lambda; the second's min_weight and rounded alpha × min_weight are no larger
+-- p with other thresholds: all that the labels alone go by
+abbrev pub withThresholds : Settings → (alpha minWeight : Float) → Settings
+withThresholds p alpha minWeight = record { dim = p .dim; r = p .r; lambda = p .lambda; alpha = alpha; «min_weight» = minWeight }
+
+-- alike but for the thresholds; the second's min_weight and rounded alpha × min_weight are no larger
 pub record Laxer (p q : Settings) : Type 0 where
-  pub dim : p .dim ≡ q .dim
-  pub r : p .r ≡ q .r
-  pub lambda : p .lambda ≡ q .lambda
-  pub minWeight : T (le (q .minWeight) (p .minWeight))
-  pub density : T (le (q .alpha ⊗ q .minWeight) (p .alpha ⊗ p .minWeight))
+  pub alike : withThresholds p (q .alpha) (q .«min_weight») ≡ q
+  pub minWeight : T (le (q .«min_weight») (p .«min_weight»))
+  pub density : T (le (q .alpha ⊗ q .«min_weight») (p .alpha ⊗ p .«min_weight»))
 
 -- "every kept figure of micro-clusters, links and drift report is equal"
 pub record SameHoldings (s u : State) : Type 0 where
@@ -126,7 +128,7 @@ pub record FromFresh (n : ℕ) (s : State) : Type 0 where
 
 -- what is kept of each micro-cluster and link
 pub record Figures (n : ℕ) (s : State) : Type 0 where
-  pub means : Each (λ (m : DbMicro). length (m .cf .mean) ≡ s .params .dim) (s .held .micros)
+  pub means : Each (λ (m : DbMicro). length (m .cf .mean) ≡ s .params .settings .dim) (s .held .micros)
   pub weights : Each (λ (m : DbMicro). Weighed n (m .cf .w) (m .last)) (s .held .micros)
   pub densities : Each (λ (l : Link). Weighed n (l .value) (l .last)) (s .held .links)
 
@@ -145,7 +147,7 @@ pub record Fits (s : State) : Type 0 where
   -- and no link is turned away: an insert's gains are those in a list without bound
   pub roomForAll :
       (x : List Float) →
-      joined s x .links ≡ foldl (gainUnbounded (s .params .lambda) (s .t)) (s .held .links) (pairsOf (map idOf (neighboursOf s x)))
+      joined s x .links ≡ foldl (gainUnbounded (s .params .settings .lambda) (s .t)) (s .held .links) (pairsOf (map idOf (neighboursOf s x)))
 
 -- ---- demand 3
 abbrev pub Opens : Settings → Type 0
@@ -162,7 +164,7 @@ pub record OneStream (p : Settings) (xs : List (List Float)) : Type 0 where
   -- as of either stream: settings that stay, when a cleanup is due, the drift report
   pub run : whole.OneRun dbstream hasPlace p xs
   -- t_gap is a whole number of ticks, from 1 to 2^32
-  pub period : Period (2 ^ 32) (paramsOf p .tGap)
+  pub period : Period (2 ^ 32) (paramsOf p .«t_gap»)
   pub labels : LabelsTellFamilies (clusterOf (after p xs))
   pub holdings : FromFresh (acceptedIn (told p xs)) (after p xs)
   pub figures : Figures (acceptedIn (told p xs)) (after p xs)

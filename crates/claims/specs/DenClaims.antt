@@ -45,7 +45,7 @@ Weighs s i v = Summed (λ k. OneGroup s k i) 0 nought (fadedWeights s) v
 
 -- v doesn't reach mu
 abbrev pub UnderMu : State → Float → Type 0
-UnderMu s v = le (s .params .mu) v ≡ false
+UnderMu s v = le (s .params .settings .mu) v ≡ false
 
 abbrev pub label : State → ℕ → ℤ
 label s i = getD (s .labels) i (negsuc 0)
@@ -80,8 +80,8 @@ pub record Kept (n dim : ℕ) (m : Micro) : Type 0 where
   pub born : m .t0 ≡ whole birth
 
 pub record Figures (n : ℕ) (s : State) : Type 0 where
-  pub potential : Each (Kept n (s .params .dim)) (s .held .potential)
-  pub outliers : Each (Kept n (s .params .dim)) (s .held .outliers)
+  pub potential : Each (Kept n (s .params .settings .dim)) (s .held .potential)
+  pub outliers : Each (Kept n (s .params .settings .dim)) (s .held .outliers)
 
 -- ---- demand 3
 abbrev pub Opens : Settings → Type 0

@@ -18,11 +18,11 @@ use Rattle.dbstream.specs.Stream.{view, dimOf}
 module _ (s : DbStream) (a b : MicroId) (ids : List MicroId) (mean : Float) where
   pub connected :
       take (s .count) ids ≡ map idOf (take (s .count) (s .micros)) → mean ≡ (storedWeight (take (s .count) (s .micros)) a ⊕ storedWeight (take (s .count) (s .micros)) b) ⊘ two →
-      (said : Said Float) → said ≡ connectivityAmong (take (s .count) ids) a b mean (s .lambda) (s .t) (view s .held .links) →
+      (said : Said Float) → said ≡ connectivityAmong (take (s .count) ids) a b mean (s .params .settings .lambda) (s .t) (view s .held .links) →
       said ≡ connectivityOf (view s) a b
   connected names weighed said e =
       e
-      ∙ ap₂ (λ (l : List MicroId) (w : Float). connectivityAmong l a b w (s .lambda) (s .t) (view s .held .links))
+      ∙ ap₂ (λ (l : List MicroId) (w : Float). connectivityAmong l a b w (s .params .settings .lambda) (s .t) (view s .held .links))
       (names ∙ sym (map-map idOf (cutTo (dimOf s)) ms)) (weighed ∙ ap₂ (λ (x y : Float). (x ⊕ y) ⊘ two) (weight-view (dimOf s) ms a) (weight-view (dimOf s) ms b))
       ∙ connectivity-view (view s) a b
     where

@@ -34,13 +34,13 @@ pub fn try_predict(stream: DbStream, x: &[f64]) -> Prediction
 {
     let micros = stream.micros;
     let labels = stream.labels;
-    let dim = stream.dim;
+    let dim = stream.params.settings.dim;
     micro::predict(
         micros,
         stream.count,
         labels,
         stream.label_count,
-        stream.r,
+        stream.params.settings.r,
         dim,
         x,
     )
@@ -56,8 +56,8 @@ pub fn micro_stats(
     ensures { λ r. ⌜ statisticsTold r (now (centres .exit)) (now (weights .exit)) (now (radii .exit)) ≡ statisticsOf (view stream) (now (centres .entry)) (now (weights .entry)) (now (radii .entry)) ⌝ }
 {
     let micros = stream.micros;
-    let lambda = stream.lambda;
-    let dim = stream.dim;
+    let lambda = stream.params.settings.lambda;
+    let dim = stream.params.settings.dim;
     micro::statistics(
         micros,
         stream.count,
@@ -79,7 +79,7 @@ pub fn connectivity(stream: DbStream, a: MicroId, b: MicroId) -> Connectivity
     let ids = micro::ids_of(micros, n);
     let mean = micro::mean_weight(micros, n, a, b);
     let links = stream.links;
-    let lambda = stream.lambda;
+    let lambda = stream.params.settings.lambda;
     link::connectivity(
         links,
         stream.link_count,

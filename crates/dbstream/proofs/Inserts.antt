@@ -73,7 +73,7 @@ pub record Met (s : DbStream) (x y : List Float) (d : ℕ) (f : Scan) : Type 0 w
   pub coordinates : d ≡ dimOf s
   pub point : length x ≡ d → y ≡ x
   pub places : length (s .micros) ≡ microsMost
-  pub scanned : scanTold (s .count) f ≡ scanOf (s .r) y (held d (s .count) (s .micros))
+  pub scanned : scanTold (s .count) f ≡ scanOf (s .params .settings .r) y (held d (s .count) (s .micros))
 
 -- no more neighbours than micro-clusters
 pub few : {s : DbStream} {x y : List Float} {d : ℕ} {f : Scan} → Met s x y d f → f .count ≤ microsMost
@@ -82,7 +82,7 @@ few {s} {x} {y} {d} {f} m =
     omega (
       arith,
       ap (λ (q : Scan). q .count) (m .scanned),
-      retain-length (isNeighbour (s .r) y) ms,
+      retain-length (isNeighbour (s .params .settings .r) y) ms,
       map-length (cutTo d) (take (s .count) (s .micros)),
       length-take (s .count) (s .micros),
       m .places,
@@ -90,17 +90,17 @@ few {s} {x} {y} {d} {f} m =
 
 -- of a point of dim coordinates
 module _ {s : DbStream} {x y : List Float} {d : ℕ} {f : Scan} (m : Met s x y d f) (ex : length x ≡ d) where
-  met : scanTold (s .count) f ≡ scanOf (s .r) x (view s .held .micros)
-  met = m .scanned ∙ ap₂ (λ (z : List Float) (q : ℕ). scanOf (s .r) z (held q (s .count) (s .micros))) (m .point ex) (m .coordinates)
+  met : scanTold (s .count) f ≡ scanOf (s .params .settings .r) x (view s .held .micros)
+  met = m .scanned ∙ ap₂ (λ (z : List Float) (q : ℕ). scanOf (s .params .settings .r) z (held q (s .count) (s .micros))) (m .point ex) (m .coordinates)
 
   k-is : length (neighboursOf (view s) x) ≡ f .count
   k-is = sym (ap (λ (q : Scan). q .count) met)
 
   none : f .count ≡ 0 → isAbsorbed (view s) x ≡ false
-  none h = any-none (isNeighbour (s .r) x) (view s .held .micros) (k-is ∙ h)
+  none h = any-none (isNeighbour (s .params .settings .r) x) (view s .held .micros) (k-is ∙ h)
 
   some : f .count ≢ 0 → isAbsorbed (view s) x ≡ true
-  some h = any-some (isNeighbour (s .r) x) (view s .held .micros) (omega (arith, k-is, h))
+  some h = any-some (isNeighbour (s .params .settings .r) x) (view s .held .micros) (omega (arith, k-is, h))
 
   size : length (view s .held .micros) ≡ min (s .count) microsMost
   size = map-length (cutTo (dimOf s)) (take (s .count) (s .micros)) ∙ length-take (s .count) (s .micros) ∙ ap (min (s .count)) (m .places)
@@ -123,17 +123,17 @@ module _ {s : DbStream} {x y : List Float} {d : ℕ} {f : Scan} (m : Met s x y d
       ∙ ap (λ (v : DbMicro). view s .held .micros ++ v ∷ [])
       (ap (λ (q : List Float). cutTo (dimOf s) (newborn maxDim (s .«next_id») (s .t) q)) (m .point ex) ∙ newborn-view (dimOf s) x (ex ∙ m .coordinates) (omega arith) (s .t) (s .«next_id»)))
 
-  micros-absorbed : f .count ≢ 0 → microsBy s f y ≡ map (absorbed (s .r) (s .lambda) (s .t) x) (view s .held .micros)
+  micros-absorbed : f .count ≢ 0 → microsBy s f y ≡ map (absorbed (s .params .settings .r) (s .params .settings .lambda) (s .t) x) (view s .held .micros)
   micros-absorbed h =
       rw (ne-eqb (f .count) 0 h)
-      (ap₂ (λ (z q : List Float). map (cutTo (dimOf s)) (absorbNear (s .r ⊗ s .r) (absorbs (s .lambda) (s .t) z) q (take (s .count) (s .micros)))) (m .point ex) (ap (λ (q : Scan). q .distances) met)
-      ∙ absorb-view (dimOf s) x (ex ∙ m .coordinates) (s .r) (s .lambda) (s .t) (take (s .count) (s .micros)))
+      (ap₂ (λ (z q : List Float). map (cutTo (dimOf s)) (absorbNear (s .params .settings .r ⊗ s .params .settings .r) (absorbs (s .params .settings .lambda) (s .t) z) q (take (s .count) (s .micros)))) (m .point ex) (ap (λ (q : Scan). q .distances) met)
+      ∙ absorb-view (dimOf s) x (ex ∙ m .coordinates) (s .params .settings .r) (s .params .settings .lambda) (s .t) (take (s .count) (s .micros)))
 
   -- no pair, no gain
   links-stay : f .count ≡ 0 → gainedBy s f ≡ view s .held .links
   links-stay h =
       let short : length (take (f .count) (f .ids)) ≤ 1 = omega (arith, length-take (f .count) (f .ids)) in
-      ap (foldl (gainOf (s .lambda) (s .t)) (view s .held .links)) (no-pair (take (f .count) (f .ids)) short)
+      ap (foldl (gainOf (s .params .settings .lambda) (s .t)) (view s .held .links)) (no-pair (take (f .count) (f .ids)) short)
 
   placed-is : (f .count ≡ 0 → s .count < microsMost) → heldBy s f y ≡ placed (view s) x
   placed-is free =
@@ -145,7 +145,7 @@ module _ {s : DbStream} {x y : List Float} {d : ℕ} {f : Scan} (m : Met s x y d
       (λ h.
       ap (λ (q : MicroId). holds q (microsBy s f y) (gainedBy s f)) (rw (ne-eqb (f .count) 0 h) refl)
       ∙ ap₂ (holds (s .«next_id»)) (micros-absorbed h)
-      (ap (λ (q : Scan). foldl (gainOf (s .lambda) (s .t)) (view s .held .links) (pairsOf (q .ids))) met)
+      (ap (λ (q : Scan). foldl (gainOf (s .params .settings .lambda) (s .t)) (view s .held .links) (pairsOf (q .ids))) met)
       ∙ sym (ap (λ (c : Bool). cond c (joined (view s) x) (born (view s) x)) (some h)))
 
 -- ---- the whole insert

@@ -19,7 +19,7 @@ use Rattle.dbstream.specs.Stream.{view, dimOf}
 
 module _
     (s : DbStream)
-    (mask : List Bool) (emask : take (s .count) mask ≡ map (reaches (s .lambda) (s .t) (s .«min_weight»)) (take (s .count) (s .micros)))
+    (mask : List Bool) (emask : take (s .count) mask ≡ map (reaches (s .params .settings .lambda) (s .t) (s .params .settings .«min_weight»)) (take (s .count) (s .micros)))
     (ids : List MicroId) (eids : take (s .count) ids ≡ map idOf (take (s .count) (s .micros))) where
   strong-are : take (s .count) mask ≡ strongOnes (view s)
   strong-are = emask ∙ sym (map-map (isStrong (view s)) (cutTo (dimOf s)) (take (s .count) (s .micros)))
@@ -30,17 +30,17 @@ module _
   labels-are :
       (labels : List ℤ) → take (s .count) labels
       ≡ labelsBy (take (s .count) mask)
-      (joinedBy (take (s .count) ids) (take (s .count) mask) (s .lambda) (s .t) (s .alpha ⊗ s .«min_weight») (view s .held .links)) →
+      (joinedBy (take (s .count) ids) (take (s .count) mask) (s .params .settings .lambda) (s .t) (s .params .settings .alpha ⊗ s .params .settings .«min_weight») (view s .held .links)) →
       take (s .count) labels ≡ labelsOf (view s)
   unfolding labelsOf
   labels-are labels e =
-      e ∙ ap₂ (λ (bs : List Bool) (is : List MicroId). labelsBy bs (joinedBy is bs (s .lambda) (s .t) (s .alpha ⊗ s .«min_weight») (view s .held .links)))
+      e ∙ ap₂ (λ (bs : List Bool) (is : List MicroId). labelsBy bs (joinedBy is bs (s .params .settings .lambda) (s .t) (s .params .settings .alpha ⊗ s .params .settings .«min_weight») (view s .held .links)))
       strong-are ids-are
       ∙ ap (labelsBy (strongOnes (view s))) (joined-view (view s) (view s .held .links))
 
   pub clustered :
       (labels : List ℤ) → take (s .count) labels
       ≡ labelsBy (take (s .count) mask)
-      (joinedBy (take (s .count) ids) (take (s .count) mask) (s .lambda) (s .t) (s .alpha ⊗ s .«min_weight») (view s .held .links)) →
+      (joinedBy (take (s .count) ids) (take (s .count) mask) (s .params .settings .lambda) (s .t) (s .params .settings .alpha ⊗ s .params .settings .«min_weight») (view s .held .links)) →
       labelled (view s) (take (s .count) labels) ≡ clusterOf (view s)
   clustered labels e = ap (labelled (view s)) (labels-are labels e)

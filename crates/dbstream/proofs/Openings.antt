@@ -16,12 +16,12 @@ use Rattle.model.specs.Periods.{tGapOf, floorOf}
 use Rattle.model.specs.OpenLaws.{uncut, opens-yes, opened-by}
 use Rattle.model.specs.DbState.{Settings, State}
 use Rattle.model.specs.Dbstream.{dbstream, asked, fresh, openOf}
-use Rattle.dbstream.specs.Stream.{settings}
+use Rattle.dbstream.specs.Stream.{withDim}
 
 pub fresh-is :
     (p : Settings) (g f : Float) (m : Monitor) → g ≡ tGapOf (p .lambda) → f ≡ floorOf (p .lambda) → m ≡ newOf (p .r) →
     record {
-      params = record { dim = p .dim; r = p .r; lambda = p .lambda; alpha = p .alpha; minWeight = p .minWeight; tGap = g; floor = f };
+      params = record { settings = p; «t_gap» = g; floor = f };
       t = nought;
       held = record { next = 0; micros = []; links = [] };
       labels = [];
@@ -29,20 +29,15 @@ pub fresh-is :
     } ≡ fresh p
 fresh-is p g f m eg ef em = rw (eg, ef, em)
 
-module _ (dim : ℕ) (r lambda alpha weight : Float) (a : Opening) (e : a ≡ asked (settings dim r lambda alpha weight)) where
-  pub opens :
-      (s : State) → isOpen a ≡ true → s ≡ fresh (settings (min dim maxDim) r lambda alpha weight) →
-      record { answer = a; stream = s } ≡ openOf (settings dim r lambda alpha weight)
+module _ (p : Settings) (a : Opening) (e : a ≡ asked p) where
+  pub opens : (s : State) → isOpen a ≡ true → s ≡ fresh (withDim p (min (p .dim) maxDim)) → record { answer = a; stream = s } ≡ openOf p
   opens s t es =
-      opened-by dbstream (settings dim r lambda alpha weight) a true s e t
-      (es ∙ ap (λ (n : ℕ). fresh (settings n r lambda alpha weight))
-      (uncut dim (opens-yes dbstream (settings dim r lambda alpha weight) (refl, (refl, (refl, (refl, (refl, tt))))) (ap isOpen (sym e) ∙ t) .0)))
+      opened-by dbstream p a true s e t
+      (es ∙ ap (λ (n : ℕ). fresh (withDim p n)) (uncut (p .dim) (opens-yes dbstream p (refl, (refl, (refl, (refl, (refl, tt))))) (ap isOpen (sym e) ∙ t) .0)))
 
-  pub stays-shut :
-      (s : State) → isOpen a ≡ false → s ≡ fresh (settings 0 nought nought nought nought) →
-      record { answer = a; stream = s } ≡ openOf (settings dim r lambda alpha weight)
-  stays-shut s t es = opened-by dbstream (settings dim r lambda alpha weight) a false s e t es
+  pub stays-shut : (s : State) → isOpen a ≡ false → s ≡ fresh (dbstream .zeros) → record { answer = a; stream = s } ≡ openOf p
+  stays-shut s t es = opened-by dbstream p a false s e t es
 
 -- both clauses of an opening, from the first
-pub both : (p : Settings) (o : Opened State) → o ≡ openOf p → (o ≡ openOf p) × (openingNumber (o .answer) ≡ dbOpeningNo (p .dim) (p .r) (p .lambda) (p .alpha) (p .minWeight))
+pub both : (p : Settings) (o : Opened State) → o ≡ openOf p → (o ≡ openOf p) × (openingNumber (o .answer) ≡ dbOpeningNo p)
 both p o e = (e, db-opening-said p o e)

@@ -10,7 +10,6 @@ use Rattle.lists.specs.Retain.{retain}
 use Rattle.lists.specs.Maps.{map-retain}
 use Rattle.drift.specs.declared.Nearest.{Nearest}
 use Rattle.drift.specs.declared.DriftMonitor.{DriftMonitor}
-use Rattle.drift.specs.Monitor.{Monitor}
 use Rattle.model.specs.declared.micro.MicroId.{MicroId}
 use Rattle.model.specs.declared.micro.DbMicro.{DbMicro}
 use Rattle.model.specs.declared.link.Link.{Link}
@@ -37,34 +36,28 @@ module _ (s : DbStream) (n : ℕ) (ms : List DbMicro) (ids : List MicroId) (k : 
   over kept bound = holding (view s) (record { next = s .«next_id» .0; micros = kept; links = bound })
 
   pub cleaned :
-      take n ms ≡ retain (microStays (s .lambda) (s .floor) (s .t)) (take (s .count) (s .micros)) → take n ids ≡ map idOf (take n ms) →
-      take k ls ≡ retain (staysAmong (s .lambda) (s .floor) (s .t) (take n ids)) (take (s .«link_count») (s .links)) →
+      take n ms ≡ retain (microStays (s .params .settings .lambda) (s .params .floor) (s .t)) (take (s .count) (s .micros)) → take n ids ≡ map idOf (take n ms) →
+      take k ls ≡ retain (staysAmong (s .params .settings .lambda) (s .params .floor) (s .t) (take n ids)) (take (s .«link_count») (s .links)) →
       over (held (dimOf s) n ms) (take k ls) ≡ cleanedOf dbstream (view s)
   cleaned kept names bound =
       ap (over (held (dimOf s) n ms)) links-are
-      ∙ ap (λ (q : List DbMicro). over q (retain (linkStays (s .lambda) (s .floor) (s .t) q) (view s .held .links))) micros-are
+      ∙ ap (λ (q : List DbMicro). over q (retain (linkStays (s .params .settings .lambda) (s .params .floor) (s .t) q) (view s .held .links))) micros-are
     where
-      micros-are : held (dimOf s) n ms ≡ retain (microStays (s .lambda) (s .floor) (s .t)) (view s .held .micros)
-      micros-are = ap (map (cutTo (dimOf s))) kept ∙ map-retain (cutTo (dimOf s)) (microStays (s .lambda) (s .floor) (s .t)) (take (s .count) (s .micros))
+      micros-are : held (dimOf s) n ms ≡ retain (microStays (s .params .settings .lambda) (s .params .floor) (s .t)) (view s .held .micros)
+      micros-are = ap (map (cutTo (dimOf s))) kept ∙ map-retain (cutTo (dimOf s)) (microStays (s .params .settings .lambda) (s .params .floor) (s .t)) (take (s .count) (s .micros))
 
-      links-are : take k ls ≡ retain (linkStays (s .lambda) (s .floor) (s .t) (held (dimOf s) n ms)) (view s .held .links)
+      links-are : take k ls ≡ retain (linkStays (s .params .settings .lambda) (s .params .floor) (s .t) (held (dimOf s) n ms)) (view s .held .links)
       links-are =
           bound
-          ∙ ap (λ (q : List MicroId). retain (staysAmong (s .lambda) (s .floor) (s .t) q) (view s .held .links))
+          ∙ ap (λ (q : List MicroId). retain (staysAmong (s .params .settings .lambda) (s .params .floor) (s .t) q) (view s .held .links))
           (names ∙ sym (map-map idOf (cutTo (dimOf s)) (take n ms)))
-          ∙ retain-among (s .lambda) (s .floor) (s .t) (held (dimOf s) n ms) (view s .held .links)
+          ∙ retain-among (s .params .settings .lambda) (s .params .floor) (s .t) (held (dimOf s) n ms) (view s .held .links)
 
 -- ---- the stream as the steps of an insert change it
 abbrev pub having : DbStream → MicroId → List DbMicro → (count : ℕ) → List Link → (links labels : ℕ) → (t : Float) → DriftMonitor → DbStream
 having s next ms count ls links labels t m =
     record {
-      dim = s .dim;
-      r = s .r;
-      lambda = s .lambda;
-      alpha = s .alpha;
-      «min_weight» = s .«min_weight»;
-      «t_gap» = s .«t_gap»;
-      floor = s .floor;
+      params = s .params;
       t = t;
       «next_id» = next;
       micros = ms;
@@ -99,8 +92,8 @@ goal s lambda t ids k = foldl (gainOf lambda t) (take (s .«link_count») (s .li
 -- u is s with the point in its micro-clusters and with the loop's links, of which n are held: it is document 01's before the tick
 module _ (s : DbStream) (f : Scan) (x : List Float) (next : MicroId) (ms : List DbMicro) (count : ℕ) (u : DbStream) (n : ℕ) where
   pub placed-is :
-      take count ms ≡ placedAmong f (s .r) (s .lambda) (s .t) (s .«next_id») x (s .count) (take (s .count) (s .micros)) → next ≡ nextAfter f (s .count) (s .«next_id») →
-      u ≡ withLinks (withMicros s next ms count) (u .links) → take n (u .links) ≡ goal s (s .lambda) (s .t) (f .ids) (f .count) →
+      take count ms ≡ placedAmong f (s .params .settings .r) (s .params .settings .lambda) (s .t) (s .«next_id») x (s .count) (take (s .count) (s .micros)) → next ≡ nextAfter f (s .count) (s .«next_id») →
+      u ≡ withLinks (withMicros s next ms count) (u .links) → take n (u .links) ≡ goal s (s .params .settings .lambda) (s .t) (f .ids) (f .count) →
       view (having u (u .«next_id») (u .micros) (u .count) (u .links) n 0 (u .t) (u .drift)) ≡ placedBy s f x
   placed-is placed numbered is gained =
       ap (λ (v : DbStream). view (having v (v .«next_id») (v .micros) (v .count) (u .links) n 0 (v .t) (v .drift))) is
@@ -109,11 +102,11 @@ module _ (s : DbStream) (f : Scan) (x : List Float) (next : MicroId) (ms : List 
       ∙ ap (λ (q : MicroId). taking (view s) (holds q (microsBy s f x) links)) numbered
     where
       links : List Link
-      links = goal s (s .lambda) (s .t) (f .ids) (f .count)
+      links = goal s (s .params .settings .lambda) (s .t) (f .ids) (f .count)
 
 -- ---- the tick: what the clock r tells, then the cleanup where one is due
 module _ (s : DbStream) (near : Nearest) (r : Ticked)
-    (told : tickTold r ≡ tickedOf (record { t = s .t; period = s .«t_gap»; drift = s .drift }) near) where
+    (told : tickTold r ≡ tickedOf (record { t = s .t; period = s .params .«t_gap»; drift = s .drift }) near) where
   abbrev later : DbStream
   later = having s (s .«next_id») (s .micros) (s .count) (s .links) (s .«link_count») (s .«label_count») (r .t) (r .drift)
 
@@ -121,7 +114,7 @@ module _ (s : DbStream) (near : Nearest) (r : Ticked)
   advanced-is =
       ap (λ (q : Tick). record { params = view s .params; t = q .t; held = view s .held; labels = view s .labels; drift = q .drift }) told
 
-  due-is : tickTold r .due ≡ isMultiple (s .t ⊕ one) (s .«t_gap»)
+  due-is : tickTold r .due ≡ isMultiple (s .t ⊕ one) (s .params .«t_gap»)
   due-is = ap (λ (q : Tick). q .due) told
 
   pub tick-still : r .due ≡ false → view later ≡ tickOf (view s) near

@@ -1,6 +1,5 @@
 -- The stream of the arrays, and document 01's in it: the view. Definitions only.
 use Prim.Native.Nat.{ℕ, min}
-use lib.Ieee.{Float}
 use lib.ListN.{take}
 use Rattle.feature.specs.Feature.{maxDim}
 use Rattle.drift.specs.Monitor as drift
@@ -11,31 +10,23 @@ use Rattle.dbstream.specs.declared.DbStream.{DbStream}
 use Rattle.dbstream.specs.declared.opening.Opened.{Opened}
 use Rattle.dbstream.specs.declared.insert.Inserted.{Inserted}
 
-abbrev pub settings : (dim : ℕ) (r lambda alpha minWeight : Float) → Settings
-settings dim r lambda alpha minWeight = record { dim = dim; r = r; lambda = lambda; alpha = alpha; minWeight = minWeight }
+-- p of so many coordinates
+abbrev pub withDim : Settings → ℕ → Settings
+withDim p dim = record { dim = dim; r = p .r; lambda = p .lambda; alpha = p .alpha; «min_weight» = p .«min_weight» }
 
--- dim, cut to the places of a mean
+-- never more than 15 coordinates
+abbrev pub settledOf : Params → Params
+settledOf p = record { settings = withDim (p .settings) (min (p .settings .dim) maxDim); «t_gap» = p .«t_gap»; floor = p .floor }
+
 abbrev pub dimOf : DbStream → ℕ
-dimOf s = min (s .dim) maxDim
-
-abbrev pub paramsOf : DbStream → Params
-paramsOf s =
-    record {
-      dim = dimOf s;
-      r = s .r;
-      lambda = s .lambda;
-      alpha = s .alpha;
-      minWeight = s .«min_weight»;
-      tGap = s .«t_gap»;
-      floor = s .floor;
-    }
+dimOf s = settledOf (s .params) .settings .dim
 
 -- all that is kept, and nothing of the places past a count
 abbrev pub heldIn : DbStream → Holdings
 heldIn s = record { next = s .«next_id» .0; micros = held (dimOf s) (s .count) (s .micros); links = take (s .«link_count») (s .links) }
 
 abbrev pub view : DbStream → State
-view s = record { params = paramsOf s; t = s .t; held = heldIn s; labels = take (s .«label_count») (s .labels); drift = drift.view (s .drift) }
+view s = record { params = settledOf (s .params); t = s .t; held = heldIn s; labels = take (s .«label_count») (s .labels); drift = drift.view (s .drift) }
 
 -- what an opening tells
 abbrev pub openedTold : Opened → outcome.Opened State

@@ -11,8 +11,8 @@ impl DbStream {
         ensures { λ r. ⌜ view r ≡ cleanedOf dbstream (view self) ⌝ }
     {
         let t = self.t;
-        let lambda = self.lambda;
-        let floor = self.floor;
+        let lambda = self.params.settings.lambda;
+        let floor = self.params.floor;
         let micros = self.micros;
         let kept = micro::retained(micros, self.count, lambda, t, floor);
         let left = kept.micros;

@@ -10,12 +10,13 @@ impl DbStream {
         ensures { λ r. ⌜ view r ≡ clusterOf (view self) ⌝ }
     {
         let n = self.count;
-        let lambda = self.lambda;
+        let settings = self.params.settings;
+        let lambda = settings.lambda;
         let t = self.t;
         let micros = self.micros;
-        let strong = micro::strong_ones(micros, n, lambda, t, self.min_weight);
+        let strong = micro::strong_ones(micros, n, lambda, t, settings.min_weight);
         let ids = micro::ids_of(micros, n);
-        let dense = self.alpha * self.min_weight;
+        let dense = settings.alpha * settings.min_weight;
         let links = self.links;
         let labels = joins::labels_of(links, self.link_count, ids, strong, n, lambda, t, dense);
         self.labels = labels;

@@ -34,11 +34,21 @@ impl DbStream {
             return self;
         }
         let t = self.t;
-        let lambda = self.lambda;
+        let lambda = self.params.settings.lambda;
         let n = self.count;
         let id = self.next_id;
         let micros = self.micros;
-        let p = neighbours::with_point(micros, n, id, scan, x, dim, self.r, lambda, t);
+        let p = neighbours::with_point(
+            micros,
+            n,
+            id,
+            scan,
+            x,
+            dim,
+            self.params.settings.r,
+            lambda,
+            t,
+        );
         let grown = p.micros;
         self.micros = grown;
         self.count = p.count;
@@ -64,13 +74,13 @@ impl DbStream {
         ensures { λ r. ⌜ insertedTold r ≡ insertOf (view self) (now (x .entry)) ⌝ }
         ensures kept { λ r. ⌜ (insertionNumber (r .answer) ≢ 0 → r .stream ≡ self) ⌝ }
         ensures said { λ r. ⌜ insertionSaid (r .answer)
-            ≡ insertionNo (view self .params .dim) (length (now (x .entry))) (self .t) (hasPlace (view self) (now (x .entry))) ⌝ }
+            ≡ insertionNo (view self .params .settings .dim) (length (now (x .entry))) (self .t) (hasPlace (view self) (now (x .entry))) ⌝ }
     {
-        let dim = lists::cut(self.dim, MAX_DIM);
+        let dim = lists::cut(self.params.settings.dim, MAX_DIM);
         let n = self.count;
         let p = model::padded(x);
         let micros = self.micros;
-        let scan = neighbours::scan_for(micros, n, p, dim, self.r);
+        let scan = neighbours::scan_for(micros, n, p, dim, self.params.settings.r);
         let place = scan.has_place(n);
         let answer = model::insertion_asked(dim, x.len(), self.t, place);
         let stream = self.taken(answer.is_done(), scan, p, dim);

@@ -9,6 +9,7 @@ mod tick;
 use drift::DriftMonitor;
 pub use insert::Inserted;
 use model::DbMicro;
+use model::DbParams;
 use model::LINKS;
 use model::Link;
 use model::MICROS;
@@ -17,14 +18,7 @@ pub use opening::Opened;
 
 // The arrays hold as many elements as their counts say; links stand in the order of their ends' creation numbers.
 pub struct DbStream {
-    pub dim: usize,
-    pub r: f64,
-    pub lambda: f64,
-    pub alpha: f64,
-    pub min_weight: f64,
-    // The ticks between cleanups, and the faded weight that survives them.
-    pub t_gap: f64,
-    pub floor: f64,
+    pub params: DbParams,
     pub t: f64,
     pub next_id: MicroId,
     pub micros: [DbMicro; MICROS],

@@ -3,6 +3,8 @@ use crate::DbStream;
 use drift::DriftMonitor;
 use feature::Spherical;
 use model::DbMicro;
+use model::DbParams;
+use model::DbSettings;
 use model::LINKS;
 use model::Link;
 use model::MICROS;
@@ -14,7 +16,7 @@ ghost use Rattle.feature.specs.Feature.{maxDim};
 ghost use Rattle.model.specs.Answers.{openingNumber};
 ghost use Rattle.model.specs.Numbers.{dbOpeningNo};
 ghost use Rattle.model.specs.Dbstream.{fresh, openOf};
-ghost use Rattle.dbstream.specs.Stream.{view, settings, openedTold};
+ghost use Rattle.dbstream.specs.Stream.{view, withDim, openedTold};
 
 // The answer, and the stream; beside a refusal stands one whose settings are all 0.
 pub struct Opened {
@@ -24,8 +26,8 @@ pub struct Opened {
 
 impl DbStream {
     // No micro-cluster, link or label, an empty window, no alarm, clock 0.
-    fn fresh(dim: usize, r: f64, lambda: f64, alpha: f64, min_weight: f64) -> Self
-        ensures { λ s. ⌜ view s ≡ fresh (settings (min dim maxDim) r lambda alpha «min_weight») ⌝ }
+    fn fresh(settings: DbSettings) -> Self
+        ensures { λ s. ⌜ view s ≡ fresh (withDim settings (min (settings .dim) maxDim)) ⌝ }
     {
         let id = MicroId(0);
         let cf = Spherical::new();
@@ -39,17 +41,16 @@ impl DbStream {
         let micros = [micro; MICROS];
         let links = [link; LINKS];
         let labels = [0i64; MICROS];
-        let t_gap = model::t_gap(lambda);
-        let floor = model::floor(lambda);
-        let drift = DriftMonitor::new(r);
-        DbStream {
-            dim,
-            r,
-            lambda,
-            alpha,
-            min_weight,
+        let t_gap = model::t_gap(settings.lambda);
+        let floor = model::floor(settings.lambda);
+        let params = DbParams {
+            settings,
             t_gap,
             floor,
+        };
+        let drift = DriftMonitor::new(settings.r);
+        DbStream {
+            params,
             t: 0.0,
             next_id: id,
             micros,
@@ -62,16 +63,29 @@ impl DbStream {
         }
     }
 
-    pub fn new(dim: usize, r: f64, lambda: f64, alpha: f64, min_weight: f64) -> Opened
-        ensures { λ o. ⌜ openedTold o ≡ openOf (settings dim r lambda alpha «min_weight») ⌝ }
-        ensures said { λ o. ⌜ openingNumber (o .answer) ≡ dbOpeningNo dim r lambda alpha «min_weight» ⌝ }
+    pub fn new(settings: DbSettings) -> Opened
+        ensures { λ o. ⌜ openedTold o ≡ openOf settings ⌝ }
+        ensures said { λ o. ⌜ openingNumber (o .answer) ≡ dbOpeningNo settings ⌝ }
     {
-        let answer = model::asked(dim, r, lambda, alpha, min_weight);
+        let answer = model::asked(
+            settings.dim,
+            settings.r,
+            settings.lambda,
+            settings.alpha,
+            settings.min_weight,
+        );
         if answer.is_open() {
-            let stream = DbStream::fresh(dim, r, lambda, alpha, min_weight);
+            let stream = DbStream::fresh(settings);
             return Opened { answer, stream };
         }
-        let stream = DbStream::fresh(0, 0.0, 0.0, 0.0, 0.0);
+        let zeros = DbSettings {
+            dim: 0,
+            r: 0.0,
+            lambda: 0.0,
+            alpha: 0.0,
+            min_weight: 0.0,
+        };
+        let stream = DbStream::fresh(zeros);
         Opened { answer, stream }
     }
 }

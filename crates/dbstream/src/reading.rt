@@ -10,9 +10,9 @@ ghost use Rattle.dbstream.specs.Stream.{view};
 
 impl DbStream {
     pub fn dim(self) -> usize
-        ensures { λ r. ⌜ r ≡ view self .params .dim ⌝ }
+        ensures { λ r. ⌜ r ≡ view self .params .settings .dim ⌝ }
     {
-        lists::cut(self.dim, MAX_DIM)
+        lists::cut(self.params.settings.dim, MAX_DIM)
     }
 
     pub fn micro_count(self) -> usize

@@ -13,7 +13,7 @@ impl DbStream {
         ensures { λ r. ⌜ view r ≡ tickOf (view self) near ⌝ }
     {
         let drift = self.drift;
-        let clock = Clock::at(self.t, self.t_gap, drift);
+        let clock = Clock::at(self.t, self.params.t_gap, drift);
         let ticked = clock.tick(near);
         let t = ticked.t;
         let seen = ticked.drift;

@@ -40,7 +40,7 @@ pub fn try_predict(stream: DenStream, x: &[f64]) -> Prediction
         labels,
         stream.label_count,
         params.eps2,
-        params.dim,
+        params.settings.dim,
         x,
     )
 }
@@ -58,6 +58,14 @@ pub fn potential_stats(
     let n = placement::potential_held(stream.potential_count);
     let potential = stream.potential;
     let features = pool::features(potential, n);
-    let faded = pool::faded_weights(potential, n, params.lambda, stream.t);
-    readout::statistics(features, faded, n, params.dim, centres, weights, radii)
+    let faded = pool::faded_weights(potential, n, params.settings.lambda, stream.t);
+    readout::statistics(
+        features,
+        faded,
+        n,
+        params.settings.dim,
+        centres,
+        weights,
+        radii,
+    )
 }

@@ -8,7 +8,7 @@ use lib.ListN.{take}
 use Rattle.feature.specs.Feature.{maxDim}
 use Rattle.drift.specs.Monitor.{Monitor}
 use Rattle.model.specs.declared.micro.Micro.{Micro}
-use Rattle.model.specs.declared.params.Params.{Params}
+use Rattle.model.specs.DenState.{Params}
 use Rattle.model.specs.DenCluster.{labelsOf}
 use Rattle.model.specs.Denstream.{clusterOf}
 use Rattle.pool.specs.Held.{seen}
@@ -17,8 +17,8 @@ use Rattle.grouping.specs.Group.{labelsIn}
 
 pub clustered :
     (p : Params) (t : Float) (potential : List Micro) (potentialCount : ℕ) (outliers : List Micro) (outlierCount : ℕ) (labels : List ℤ) (drift : Monitor) (n : ℕ) (r : List ℤ) →
-    n ≡ potentialHeld potentialCount → take n r ≡ labelsIn p t (seen (min (p .dim) maxDim) n potential) →
+    n ≡ potentialHeld potentialCount → take n r ≡ labelsIn p t (seen (min (p .settings .dim) maxDim) n potential) →
     stateOf p t potential potentialCount outliers outlierCount (take n r) drift ≡ clusterOf (stateOf p t potential potentialCount outliers outlierCount labels drift)
 unfolding labelsIn labelsOf
 clustered p t potential potentialCount outliers outlierCount labels drift n r e h =
-    ap (λ (l : List ℤ). stateOf p t potential potentialCount outliers outlierCount l drift) (h ∙ ap (λ (k : ℕ). labelsIn p t (seen (min (p .dim) maxDim) k potential)) e)
+    ap (λ (l : List ℤ). stateOf p t potential potentialCount outliers outlierCount l drift) (h ∙ ap (λ (k : ℕ). labelsIn p t (seen (min (p .settings .dim) maxDim) k potential)) e)

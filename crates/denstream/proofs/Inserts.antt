@@ -20,17 +20,17 @@ use Rattle.placement.specs.PlacingLaws.{Placing, placing-law}
 
 -- what is known once the point x is measured, of which y is what was placed: p is its placement, and a the answer
 pub record Met (s : State) (x y : List Float) (d : ℕ) (p : Placement) (a : Insertion) : Type 0 where
-  pub coordinates : d ≡ s .params .dim
+  pub coordinates : d ≡ s .params .settings .dim
   pub point : length x ≡ d → y ≡ x
-  pub placement : placementTold (s .params .dim) p ≡ placementOf (s .params) (s .t) (s .held) y
+  pub placement : placementTold (s .params .settings .dim) p ≡ placementOf (s .params) (s .t) (s .held) y
   pub answer : a ≡ insertionAsked d (length x) (s .t) (takes (p .target))
 
 module _ {s : State} {x y : List Float} {d : ℕ} {p : Placement} {a : Insertion} (m : Met s x y d p a) where
-  pub placing : Placing s y (placementTold (s .params .dim) p)
+  pub placing : Placing s y (placementTold (s .params .settings .dim) p)
   placing = subst (Placing s y) (sym (m .placement)) (placing-law s y)
 
-  met : length x ≡ d → Placing s x (placementTold (s .params .dim) p)
-  met h = subst (λ (z : List Float). Placing s z (placementTold (s .params .dim) p)) (m .point h) placing
+  met : length x ≡ d → Placing s x (placementTold (s .params .settings .dim) p)
+  met h = subst (λ (z : List Float). Placing s z (placementTold (s .params .settings .dim) p)) (m .point h) placing
 
   pub room : (b : Bool) → b ≡ isDone a → b ≡ true → takes (p .target) ≡ true
   room b h q = taken-asks d (length x) (s .t) (takes (p .target)) a (m .answer) (sym h ∙ q) .1
@@ -38,8 +38,8 @@ module _ {s : State} {x y : List Float} {d : ℕ} {p : Placement} {a : Insertion
   -- v is what becomes of the stream, by whether the answer is no refusal
   pub inserted :
       (b : Bool) (v : State) → b ≡ isDone a →
-      v ≡ cond b (tickOf (taking s (pooledAt (p .target) (p .place) (microIn (s .params .dim) (p .micro)) (s .held))) (p .near)) s →
+      v ≡ cond b (tickOf (taking s (pooledAt (p .target) (p .place) (microIn (s .params .settings .dim) (p .micro)) (s .held))) (p .near)) s →
       record { answer = a; stream = v } ≡ insertOf s x
   inserted b v eb ev =
-      inserted-by denstream s x d (takes (p .target)) (pooledAt (p .target) (p .place) (microIn (s .params .dim) (p .micro)) (s .held)) (p .near) a b v
+      inserted-by denstream s x d (takes (p .target)) (pooledAt (p .target) (p .place) (microIn (s .params .settings .dim) (p .micro)) (s .held)) (p .near) a b v
       (m .coordinates) (λ h. met h .fits) (λ h q. met h .placed q) (λ h. met h .near) (m .answer) eb ev

@@ -18,6 +18,7 @@ use Rattle.model.specs.Stream as stream
 use Rattle.model.specs.OpenLaws.{all-yes, none-open, all-open, uncut, opens-yes, opened-by}
 use Rattle.model.specs.DenState.{State, Settings}
 use Rattle.model.specs.Denstream.{denstream, fresh, asked, openOf}
+use Rattle.pool.specs.Held.{withDim}
 
 module _ (g : Settings) (a : Opening) (e : a ≡ firstNo (questions (g .dim) (g .eps) (g .lambda) (g .beta) (g .mu)) Open) where
   abbrev qs : List (Bool × Opening)
@@ -37,16 +38,16 @@ module _ (g : Settings) (a : Opening) (e : a ≡ firstNo (questions (g .dim) (g 
 
 module _ (g : Settings) (a : Opening) (v : State) (e : a ≡ asked g) where
   pub opened-told :
-      isOpen a ≡ true → v ≡ fresh (record { dim = min (g .dim) maxDim; eps = g .eps; lambda = g .lambda; beta = g .beta; mu = g .mu }) →
+      isOpen a ≡ true → v ≡ fresh (withDim g (min (g .dim) maxDim)) →
       _≡_ {A = Opened State} (record { answer = a; stream = v }) (openOf g)
   opened-told t s =
       opened-by denstream g a true v e t
-      (s ∙ ap (λ (n : ℕ). fresh (record { dim = n; eps = g .eps; lambda = g .lambda; beta = g .beta; mu = g .mu }))
+      (s ∙ ap (λ (n : ℕ). fresh (withDim g n))
       (uncut (g .dim) (opens-yes denstream g (refl, (refl, (refl, (refl, (refl, (refl, tt)))))) (ap isOpen (sym e) ∙ t) .0)))
 
   pub refused-told : isOpen a ≡ false → v ≡ fresh (denstream .zeros) → _≡_ {A = Opened State} (record { answer = a; stream = v }) (openOf g)
   refused-told t s = opened-by denstream g a false v e t s
 
 -- both clauses of an opening, from the first
-pub both : (g : Settings) (o : Opened State) → o ≡ openOf g → (o ≡ openOf g) × (openingNumber (o .answer) ≡ denOpeningNo (g .dim) (g .eps) (g .lambda) (g .beta) (g .mu))
+pub both : (g : Settings) (o : Opened State) → o ≡ openOf g → (o ≡ openOf g) × (openingNumber (o .answer) ≡ denOpeningNo g)
 both g o e = (e, den-opening-said g o e)

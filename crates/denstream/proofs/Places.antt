@@ -29,7 +29,7 @@ pub record Counted (s : DenStream) (p : Placement) (np no : ℕ) : Type 0 where
 
 -- what is held with the point, and the document's stream that holds it, before its tick
 abbrev pub pooledIn : DenStream → Placement → Holdings
-pooledIn s p = pooledAt (p .target) (p .place) (microIn (min (s .params .dim) maxDim) (p .micro)) (view s .held)
+pooledIn s p = pooledAt (p .target) (p .place) (microIn (min (s .params .settings .dim) maxDim) (p .micro)) (view s .held)
 
 abbrev pub withPools : DenStream → Holdings → State
 withPools s h = taking (view s) h
@@ -53,25 +53,25 @@ module _ {s : DenStream} {p : Placement} {np no : ℕ} (c : Counted s p np no) w
   pub potential-low : p .target ≡ Potential → p .place < 64
   unfolding view
   potential-low e =
-      laws.potential-low (min (s .params .dim) maxDim) (s .potential) (s .«potential_count») (s .outliers) (s .«outlier_count») (p .target) (p .place)
+      laws.potential-low (min (s .params .settings .dim) maxDim) (s .potential) (s .«potential_count») (s .outliers) (s .«outlier_count») (p .target) (p .place)
       (p .micro) (c .ready) e (c .potential-size)
 
   pub outlier-low : p .target ≡ Outlier → p .place < 64
   unfolding view
   outlier-low e =
-      laws.outlier-low (min (s .params .dim) maxDim) (s .potential) (s .«potential_count») (s .outliers) (s .«outlier_count») (p .target) (p .place)
+      laws.outlier-low (min (s .params .settings .dim) maxDim) (s .potential) (s .«potential_count») (s .outliers) (s .«outlier_count») (p .target) (p .place)
       (p .micro) (c .ready) e (c .outliers-size)
 
   pub promotion-low : p .target ≡ Promotion → np < 64
   unfolding view
   promotion-low e =
-      laws.promotion-low (min (s .params .dim) maxDim) (s .potential) (s .«potential_count») (s .outliers) (s .«outlier_count») (c .potential-size)
+      laws.promotion-low (min (s .params .settings .dim) maxDim) (s .potential) (s .«potential_count») (s .outliers) (s .«outlier_count») (c .potential-size)
       (c .outliers-size) np (c .potential-held) no (c .outliers-held) (p .target) (p .place) (p .micro) (c .ready) e
 
   pub newborn-low : p .target ≡ Newborn → np + no < 64
   unfolding view
   newborn-low e =
-      laws.newborn-low (min (s .params .dim) maxDim) (s .potential) (s .«potential_count») (s .outliers) (s .«outlier_count») (c .potential-size)
+      laws.newborn-low (min (s .params .settings .dim) maxDim) (s .potential) (s .«potential_count») (s .outliers) (s .«outlier_count») (c .potential-size)
       (c .outliers-size) np (c .potential-held) no (c .outliers-held) (p .target) (p .place) (p .micro) (c .ready) e
 
   pub to-potential :
@@ -79,7 +79,7 @@ module _ {s : DenStream} {p : Placement} {np no : ℕ} (c : Counted s p np no) w
       ≡ withPools s (pooledIn s p)
   unfolding view
   to-potential e =
-      ap (withPools s) (laws.potential-absorbs (min (s .params .dim) maxDim) (s .potential) (s .«potential_count») (s .outliers) (s .«outlier_count»)
+      ap (withPools s) (laws.potential-absorbs (min (s .params .settings .dim) maxDim) (s .potential) (s .«potential_count») (s .outliers) (s .«outlier_count»)
       (p .target) (p .place) (p .micro) e)
 
   pub to-outlier :
@@ -87,7 +87,7 @@ module _ {s : DenStream} {p : Placement} {np no : ℕ} (c : Counted s p np no) w
       ≡ withPools s (pooledIn s p)
   unfolding view
   to-outlier e =
-      ap (withPools s) (laws.outlier-absorbs (min (s .params .dim) maxDim) (s .potential) (s .«potential_count») (s .outliers) (s .«outlier_count»)
+      ap (withPools s) (laws.outlier-absorbs (min (s .params .settings .dim) maxDim) (s .potential) (s .«potential_count») (s .outliers) (s .«outlier_count»)
       (p .target) (p .place) (p .micro) e)
 
   pub to-promotion :
@@ -95,7 +95,7 @@ module _ {s : DenStream} {p : Placement} {np no : ℕ} (c : Counted s p np no) w
       view (cleared (over s (set (s .potential) np (p .micro)) (np + 1) (rest .micros) (rest .count))) ≡ withPools s (pooledIn s p)
   unfolding view
   to-promotion e rest el cl =
-      ap (withPools s) (laws.promotes (min (s .params .dim) maxDim) (s .potential) (s .«potential_count») (s .outliers) (s .«outlier_count»)
+      ap (withPools s) (laws.promotes (min (s .params .settings .dim) maxDim) (s .potential) (s .«potential_count») (s .outliers) (s .«outlier_count»)
       (c .potential-size) (c .outliers-size) np (c .potential-held) no (c .outliers-held) (p .target) (p .place) (p .micro) (c .ready) e rest el cl)
 
   pub to-newborn :
@@ -103,5 +103,5 @@ module _ {s : DenStream} {p : Placement} {np no : ℕ} (c : Counted s p np no) w
       ≡ withPools s (pooledIn s p)
   unfolding view
   to-newborn e =
-      ap (withPools s) (laws.comes (min (s .params .dim) maxDim) (s .potential) (s .«potential_count») (s .outliers) (s .«outlier_count») (c .potential-size)
+      ap (withPools s) (laws.comes (min (s .params .settings .dim) maxDim) (s .potential) (s .«potential_count») (s .outliers) (s .«outlier_count») (c .potential-size)
       (c .outliers-size) np (c .potential-held) no (c .outliers-held) (p .target) (p .place) (p .micro) (c .ready) e)

@@ -28,7 +28,7 @@ impl DenStream {
         requires { ⌜ Ready (p .target) (p .place) (view self .held) ⌝ }
         requires placed { ⌜ (done ≡ true → takes (p .target) ≡ true) ⌝ }
         ensures { λ r. ⌜ view r ≡ cond done
-            (tickOf (taking (view self) (pooledAt (p .target) (p .place) (microIn (view self .params .dim) (p .micro)) (view self .held))) (p .near))
+            (tickOf (taking (view self) (pooledAt (p .target) (p .place) (microIn (view self .params .settings .dim) (p .micro)) (view self .held))) (p .near))
             (view self) ⌝ }
         ensures kept { λ r. ⌜ (done ≡ false → r ≡ self) ⌝ }
     {
@@ -72,10 +72,10 @@ impl DenStream {
     pub fn try_insert(self, x: &[f64]) -> Inserted
         ensures { λ r. ⌜ told r ≡ insertOf (view self) (now (x .entry)) ⌝ }
         ensures kept { λ r. ⌜ (insertionNumber (r .answer) ≢ 0 → r .stream ≡ self) ⌝ }
-        ensures said { λ r. ⌜ insertionSaid (r .answer) ≡ insertionNo (view self .params .dim) (length (now (x .entry))) (view self .t) (hasPlace (view self) (now (x .entry))) ⌝ }
+        ensures said { λ r. ⌜ insertionSaid (r .answer) ≡ insertionNo (view self .params .settings .dim) (length (now (x .entry))) (view self .t) (hasPlace (view self) (now (x .entry))) ⌝ }
     {
         let params = self.params;
-        let dim = lists::cut(params.dim, MAX_DIM);
+        let dim = lists::cut(params.settings.dim, MAX_DIM);
         let point = model::padded(x);
         let potential = self.potential;
         let np = self.potential_count;

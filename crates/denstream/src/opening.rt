@@ -2,10 +2,11 @@
 use crate::stream::DenStream;
 use drift::DriftMonitor;
 use feature::Spherical;
+use model::DenParams;
+use model::DenSettings;
 use model::MICROS;
 use model::Micro;
 use model::Opening;
-use model::Params;
 ghost use Prim.Native.Nat.{min};
 ghost use mathlib.Core.Path.{_≡_};
 ghost use Rattle.feature.specs.Feature.{maxDim};
@@ -13,6 +14,7 @@ ghost use Rattle.model.specs.Answers.{openingNumber};
 ghost use Rattle.model.specs.Numbers.{denOpeningNo};
 ghost use Rattle.model.specs.Denstream.{openOf};
 ghost use Rattle.model.specs.Denstream as doc;
+ghost use Rattle.pool.specs.Held.{withDim};
 ghost use Rattle.denstream.specs.View.{view, openedTold};
 
 // The answer; beside a refusal stands a stream of zeros.
@@ -22,54 +24,65 @@ pub struct Opened {
 }
 
 // The questions in order: the first no decides.
-fn asked(dim: usize, eps: f64, lambda: f64, beta: f64, mu: f64) -> Opening
-    ensures { λ r. ⌜ r ≡ doc.asked (record { dim = dim; eps = eps; lambda = lambda; beta = beta; mu = mu }) ⌝ }
+fn asked(settings: DenSettings) -> Opening
+    ensures { λ r. ⌜ r ≡ doc.asked settings ⌝ }
 {
-    let first = model::asked(dim, eps, lambda, beta, mu);
+    let first = model::asked(
+        settings.dim,
+        settings.eps,
+        settings.lambda,
+        settings.beta,
+        settings.mu,
+    );
     if !first.is_open() {
         return first;
     }
-    if 1.0 < beta * mu {
+    if 1.0 < settings.beta * settings.mu {
         return Opening::Open;
     }
     Opening::BetaMu
 }
 
 impl DenStream {
-    pub fn new(dim: usize, eps: f64, lambda: f64, beta: f64, mu: f64) -> Opened
-        ensures { λ r. ⌜ openedTold r ≡ openOf (record { dim = dim; eps = eps; lambda = lambda; beta = beta; mu = mu }) ⌝ }
-        ensures said { λ r. ⌜ openingNumber (r .answer) ≡ denOpeningNo dim eps lambda beta mu ⌝ }
+    pub fn new(settings: DenSettings) -> Opened
+        ensures { λ r. ⌜ openedTold r ≡ openOf settings ⌝ }
+        ensures said { λ r. ⌜ openingNumber (r .answer) ≡ denOpeningNo settings ⌝ }
     {
-        let answer = asked(dim, eps, lambda, beta, mu);
+        let answer = asked(settings);
         if answer.is_open() {
             return Opened {
                 answer,
-                stream: DenStream::fresh(dim, eps, lambda, beta, mu),
+                stream: DenStream::fresh(settings),
             };
         }
+        let zeros = DenSettings {
+            dim: 0,
+            eps: 0.0,
+            lambda: 0.0,
+            beta: 0.0,
+            mu: 0.0,
+        };
         Opened {
             answer,
-            stream: DenStream::fresh(0, 0.0, 0.0, 0.0, 0.0),
+            stream: DenStream::fresh(zeros),
         }
     }
 
     // No micro-cluster, no label, an empty window, clock 0.
-    fn fresh(dim: usize, eps: f64, lambda: f64, beta: f64, mu: f64) -> Self
-        ensures { λ r. ⌜ view r ≡ doc.fresh (record { dim = min dim maxDim; eps = eps; lambda = lambda; beta = beta; mu = mu }) ⌝ }
+    fn fresh(settings: DenSettings) -> Self
+        ensures { λ r. ⌜ view r ≡ doc.fresh (withDim settings (min (settings .dim) maxDim)) ⌝ }
     {
         let none = Micro {
             cf: Spherical::new(),
             last: 0.0,
             t0: 0.0,
         };
-        let bm = beta * mu;
-        let params = Params {
-            dim,
-            eps2: eps * eps,
-            lambda,
+        let bm = settings.beta * settings.mu;
+        let params = DenParams {
+            settings,
+            eps2: settings.eps * settings.eps,
             bm,
-            mu,
-            tp: model::tp(lambda, bm),
+            tp: model::tp(settings.lambda, bm),
         };
         DenStream {
             params,
@@ -80,7 +93,7 @@ impl DenStream {
             outlier_count: 0,
             labels: [-1; MICROS],
             label_count: 0,
-            drift: DriftMonitor::new(eps),
+            drift: DriftMonitor::new(settings.eps),
         }
     }
 }

@@ -2,9 +2,9 @@
 use drift::DriftMonitor;
 use drift::DriftReport;
 use feature::MAX_DIM;
+use model::DenParams;
 use model::MICROS;
 use model::Micro;
-use model::Params;
 ghost use mathlib.Core.Path.{_≡_};
 ghost use lib.ListN.{length};
 ghost use Rattle.drift.specs.Monitor.{reportOf};
@@ -12,7 +12,7 @@ ghost use Rattle.denstream.specs.View.{view};
 
 // Each pool is the first of its array; params has at most 15 coordinates.
 pub struct DenStream {
-    pub params: Params,
+    pub params: DenParams,
     pub t: f64,
     pub potential: [Micro; MICROS],
     pub potential_count: usize,
@@ -32,10 +32,10 @@ impl DenStream {
     }
 
     pub fn dim(self) -> usize
-        ensures { λ r. ⌜ r ≡ view self .params .dim ⌝ }
+        ensures { λ r. ⌜ r ≡ view self .params .settings .dim ⌝ }
     {
         let params = self.params;
-        lists::cut(params.dim, MAX_DIM)
+        lists::cut(params.settings.dim, MAX_DIM)
     }
 
     // How many potential micro-clusters are held.

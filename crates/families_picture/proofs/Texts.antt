@@ -20,11 +20,11 @@ module _ (bytes : List ℕ) (r : Ran) (e : r ≡ ranOf bytes) where
   told done three = cond done (cond three (drawnOf (r .stream)) (ascii "a picture needs dim 3\n")) (refusedLine (r .number))
 
   pub refused : r .number ≢ 0 → refusedLine (r .number) ≡ pictureText bytes
-  refused h = ap (λ (b : Bool). told b (eqb (r .stream .params .dim) 3)) (sym (ne-eqb (r .number) 0 h)) ∙ is
+  refused h = ap (λ (b : Bool). told b (eqb (r .stream .params .settings .dim) 3)) (sym (ne-eqb (r .number) 0 h)) ∙ is
 
   module _ (h : r .number ≡ 0) where
-    pub other-dim : r .stream .params .dim ≢ 3 → ascii "a picture needs dim 3\n" ≡ pictureText bytes
-    other-dim d = ap₂ told (sym (eq-eqb (r .number) 0 h)) (sym (ne-eqb (r .stream .params .dim) 3 d)) ∙ is
+    pub other-dim : r .stream .params .settings .dim ≢ 3 → ascii "a picture needs dim 3\n" ≡ pictureText bytes
+    other-dim d = ap₂ told (sym (eq-eqb (r .number) 0 h)) (sym (ne-eqb (r .stream .params .settings .dim) 3 d)) ∙ is
 
-    pub three : r .stream .params .dim ≡ 3 → drawnOf (r .stream) ≡ pictureText bytes
-    three d = ap₂ told (sym (eq-eqb (r .number) 0 h)) (sym (eq-eqb (r .stream .params .dim) 3 d)) ∙ is
+    pub three : r .stream .params .settings .dim ≡ 3 → drawnOf (r .stream) ≡ pictureText bytes
+    three d = ap₂ told (sym (eq-eqb (r .number) 0 h)) (sym (eq-eqb (r .stream .params .settings .dim) 3 d)) ∙ is

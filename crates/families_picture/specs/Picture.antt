@@ -28,7 +28,7 @@ drawnOf s =
 
 -- three figures a reading, or no picture
 abbrev pub dimText : State → List ℕ
-dimText s = cond (eqb (s .params .dim) 3) (drawnOf s) (ascii "a picture needs dim 3\n")
+dimText s = cond (eqb (s .params .settings .dim) 3) (drawnOf s) (ascii "a picture needs dim 3\n")
 
 abbrev pub ranText : Ran → List ℕ
 ranText r = cond (eqb (r .number) 0) (dimText (r .stream)) (refusedLine (r .number))

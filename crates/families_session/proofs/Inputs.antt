@@ -13,7 +13,6 @@ use lib.Ieee.{Float}
 use borrow.Author.Tests.{le-leb, lt-leb, eq-eqb, ne-eqb}
 use Rattle.words.specs.Word.{wordAt}
 use Rattle.model.specs.Questions.{dimInRange}
-use Rattle.dbstream.specs.Stream.{settings}
 use Rattle.families_session.specs.Input.{doubleAt, settingsIn, doublesFrom, isWhole}
 
 -- ---- a point's doubles
@@ -89,5 +88,5 @@ in-range dim e =
 -- the settings, read one by one
 pub settings-are :
     (bytes : List ℕ) (dim : ℕ) (r lambda alpha minWeight : Float) → dim ≡ wordAt bytes 0 → r ≡ doubleAt bytes 8 → lambda ≡ doubleAt bytes 16 → alpha ≡ doubleAt bytes 24 →
-    minWeight ≡ doubleAt bytes 32 → settings dim r lambda alpha minWeight ≡ settingsIn bytes
+    minWeight ≡ doubleAt bytes 32 → record { dim = dim; r = r; lambda = lambda; alpha = alpha; «min_weight» = minWeight } ≡ settingsIn bytes
 settings-are bytes dim r lambda alpha minWeight a b c d e = rw (a, b, c, d, e)

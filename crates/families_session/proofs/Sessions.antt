@@ -24,7 +24,7 @@ unfolding stream.asked
 open-dim p o e h = go (dimInRange (p .dim)) (sym (ap (λ (q : Opened State). isOpen (q .answer)) e) ∙ h)
   where
     rest : Opening
-    rest = firstNo ((positive (p .r), Radius) ∷ (lambdaInRange (p .lambda), Lambda) ∷ (shareInRange (p .alpha), Share) ∷ (positive (p .minWeight), Weight) ∷ []) Open
+    rest = firstNo ((positive (p .r), Radius) ∷ (lambdaInRange (p .lambda), Lambda) ∷ (shareInRange (p .alpha), Share) ∷ (positive (p .«min_weight»), Weight) ∷ []) Open
 
     go : (b : Bool) → isOpen (cond b rest Dim) ≡ true → b ≡ true
     go true q = refl

@@ -28,7 +28,7 @@ settingsIn bytes =
       r = doubleAt bytes 8;
       lambda = doubleAt bytes 16;
       alpha = doubleAt bytes 24;
-      minWeight = doubleAt bytes 32;
+      «min_weight» = doubleAt bytes 32;
     }
 
 -- "then points": n doubles from a place on, and k points of dim doubles

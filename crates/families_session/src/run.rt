@@ -6,6 +6,7 @@ use crate::parse::point;
 use dbstream::DbStream;
 use dbstream::Inserted;
 use dbstream::Opened;
+use model::DbSettings;
 use model::Insertion;
 use words::word_at;
 ghost use mathlib.Core.Path.{_≡_};
@@ -24,7 +25,13 @@ pub(crate) fn open_stream(bytes: &[u8]) -> Opened
     let lambda = double_at(bytes, 16);
     let alpha = double_at(bytes, 24);
     let min_weight = double_at(bytes, 32);
-    DbStream::new(dim, r, lambda, alpha, min_weight)
+    DbStream::new(DbSettings {
+        dim,
+        r,
+        lambda,
+        alpha,
+        min_weight,
+    })
 }
 
 // Every point, until one is refused.

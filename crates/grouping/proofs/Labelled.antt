@@ -17,8 +17,8 @@ use Rattle.labels.specs.Label.{labelsOf}
 use Rattle.labels.specs.LabelLaws.{labels-length}
 use Rattle.labels.specs.Group.{sumFrom, sumsOf}
 use Rattle.model.specs.declared.micro.Micro.{Micro}
-use Rattle.model.specs.declared.params.Params.{Params}
 use Rattle.model.specs.Families.{labelsBy, countedBy}
+use Rattle.model.specs.DenState.{Params}
 use Rattle.model.specs.DenInsert.{fadedWeight}
 use Rattle.model.specs.DenCluster.{pairsFrom}
 use Rattle.pool.specs.Held.{microIn, seen}
@@ -51,8 +51,8 @@ pub roots-low : (end : ℕ) → end ≤ 64 → (es : List (ℕ × ℕ)) (roots :
 roots-low end h es roots e i k = subst (λ (r : List ℕ). getD r i 0 < 64) (sym e) (roots-tell end h es .low i k)
 
 module _ (p : Params) (t : Float) (l : List Micro) (end : ℕ) (size : length l ≡ end) (few : end ≤ 64) (roots : List ℕ) (er : roots ≡ rootsOf end (pairsFrom (p .eps2) 0 l))
-    (ws : List Float) (ew : ws ≡ map (fadedWeight (p .lambda) t) l) (sums : List Float) (es : sums ≡ sumsOf roots ws)
-    (mask : List Bool) (em : mask ≡ map (λ (v : ℕ). le (p .mu) (getD sums v nan)) (take end roots)) where
+    (ws : List Float) (ew : ws ≡ map (fadedWeight (p .settings .lambda) t) l) (sums : List Float) (es : sums ≡ sumsOf roots ws)
+    (mask : List Bool) (em : mask ≡ map (λ (v : ℕ). le (p .settings .mu) (getD sums v nan)) (take end roots)) where
   abbrev pairs : List (ℕ × ℕ)
   pairs = pairsFrom (p .eps2) 0 l
 
@@ -63,24 +63,25 @@ module _ (p : Params) (t : Float) (l : List Micro) (end : ℕ) (size : length l 
   first-size = length-take-le end roots (omega (arith, roots-size))
 
   mask-size : length mask ≡ end
-  mask-size = ap length em ∙ length-map (take end roots) (λ (v : ℕ). le (p .mu) (getD sums v nan)) ∙ first-size
+  mask-size = ap length em ∙ length-map (take end roots) (λ (v : ℕ). le (p .settings .mu) (getD sums v nan)) ∙ first-size
 
   sum-at : (v : ℕ) → v < 64 → getD sums v nan ≡ sumFrom (ofBits binary64 0) v roots ws
   unfolding sumsOf
   sum-at v h = ap (λ (s : List Float). getD s v nan) es ∙ table-at 64 (λ (u : ℕ). sumFrom (ofBits binary64 0) u roots ws) nan v h
 
-  mask-is : mask ≡ countedBy (p .mu) (map (fadedWeight (p .lambda) t) l) pairs
+  mask-is : mask ≡ countedBy (p .settings .mu) (map (fadedWeight (p .settings .lambda) t) l) pairs
   unfolding countedBy
   mask-is =
       em
-      ∙ map-agree (λ (v : ℕ). le (p .mu) (getD sums v nan)) (λ (v : ℕ). le (p .mu) (sumFrom (ofBits binary64 0) v roots ws)) (take end roots)
-      (λ i k. ap (le (p .mu)) (sum-at (getD (take end roots) i 0)
+      ∙ map-agree (λ (v : ℕ). le (p .settings .mu) (getD sums v nan)) (λ (v : ℕ). le (p .settings .mu) (sumFrom (ofBits binary64 0) v roots ws))
+      (take end roots)
+      (λ i k. ap (le (p .settings .mu)) (sum-at (getD (take end roots) i 0)
       (subst (λ (v : ℕ). v < 64) (sym (getD-take end roots i 0 (omega (arith, first-size)))) (roots-low end few pairs roots er i (omega (arith, first-size))))))
-      ∙ ap (λ (r : List ℕ). map (λ (v : ℕ). le (p .mu) (sumFrom (ofBits binary64 0) v r ws)) (take end r)) er
-      ∙ ap (λ (w : List Float). map (λ (v : ℕ). le (p .mu) (sumFrom (ofBits binary64 0) v (rootsOf end pairs) w)) (take end (rootsOf end pairs))) ew
-      ∙ ap (λ (n : ℕ). map (λ (v : ℕ). le (p .mu) (sumFrom (ofBits binary64 0) v (rootsOf n pairs) (map (fadedWeight (p .lambda) t) l)))
-      (take n (rootsOf n pairs)))
-      (sym (length-map l (fadedWeight (p .lambda) t) ∙ size))
+      ∙ ap (λ (r : List ℕ). map (λ (v : ℕ). le (p .settings .mu) (sumFrom (ofBits binary64 0) v r ws)) (take end r)) er
+      ∙ ap (λ (w : List Float). map (λ (v : ℕ). le (p .settings .mu) (sumFrom (ofBits binary64 0) v (rootsOf end pairs) w)) (take end (rootsOf end pairs))) ew
+      ∙ ap (λ (n : ℕ). map (λ (v : ℕ). le (p .settings .mu)
+      (sumFrom (ofBits binary64 0) v (rootsOf n pairs) (map (fadedWeight (p .settings .lambda) t) l))) (take n (rootsOf n pairs)))
+      (sym (length-map l (fadedWeight (p .settings .lambda) t) ∙ size))
 
   labels-are : labelsOf mask roots ≡ labelsIn p t l
   unfolding labelsIn labelsBy

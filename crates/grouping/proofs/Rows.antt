@@ -163,7 +163,8 @@ twice-few eps2 i [] = omega arith
 twice-few eps2 i (m ∷ l) =
     let a : length (rowFrom eps2 i (m .cf .mean) (i + 1) l) ≤ length l = row-few eps2 i (m .cf .mean) (i + 1) l in
     let b : 2 * length (pairsFrom eps2 (i + 1) l) + length l ≤ length l * length l = twice-few eps2 (i + 1) l in
-    let c : length (rowFrom eps2 i (m .cf .mean) (i + 1) l ++ pairsFrom eps2 (i + 1) l) ≡ length (rowFrom eps2 i (m .cf .mean) (i + 1) l) + length (pairsFrom eps2 (i + 1) l) =
+    let c : length (rowFrom eps2 i (m .cf .mean) (i + 1) l ++ pairsFrom eps2 (i + 1) l)
+    ≡ length (rowFrom eps2 i (m .cf .mean) (i + 1) l) + length (pairsFrom eps2 (i + 1) l) =
     length-append (rowFrom eps2 i (m .cf .mean) (i + 1) l) (pairsFrom eps2 (i + 1) l) in
     rw (← add-one (length l)) (omega (arith, next-square (length l)))
 

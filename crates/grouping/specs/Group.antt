@@ -5,9 +5,9 @@ use lib.IntN.{ℤ}
 use lib.Ieee.{Float}
 use lib.ListN.{drop}
 use Rattle.model.specs.declared.micro.Micro.{Micro}
-use Rattle.model.specs.declared.params.Params.{Params}
 use Rattle.model.specs.Limits.{linksMost}
 use Rattle.model.specs.Families.{labelsBy, countedBy}
+use Rattle.model.specs.DenState.{Params}
 use Rattle.model.specs.DenInsert.{fadedWeight}
 use Rattle.model.specs.DenCluster.{rowFrom, pairsFrom}
 
@@ -28,4 +28,4 @@ unfoldable pub labelsIn : Params → (t : Float) → List Micro → List ℤ
 unfolding labelsBy countedBy pairsFrom
 labelsIn p t l =
     let pairs : List (ℕ × ℕ) = pairsFrom (p .eps2) 0 l in
-    labelsBy (countedBy (p .mu) (map (fadedWeight (p .lambda) t) l) pairs) pairs
+    labelsBy (countedBy (p .settings .mu) (map (fadedWeight (p .settings .lambda) t) l) pairs) pairs

@@ -2,9 +2,9 @@
 use crate::pairs::PAIRS;
 use crate::pairs::close_pairs;
 use feature::MAX_DIM;
+use model::DenParams;
 use model::MICROS;
 use model::Micro;
-use model::Params;
 ghost use Prim.Native.Nat.{_≤_, _<_, min, ℕ};
 ghost use mathlib.Core.Path.{_≡_};
 ghost use mathlib.Core.List.{map};
@@ -31,8 +31,8 @@ fn reaching(roots: [usize; MICROS], sums: [f64; MICROS], n: usize, mu: f64) -> [
 }
 
 // The labels of the first n at the clock t.
-pub fn group_labels(pool: [Micro; MICROS], n: usize, params: Params, t: f64) -> [i64; MICROS]
-    ensures { λ r. ⌜ take n r ≡ labelsIn params t (seen (min (params .dim) maxDim) n pool) ⌝ }
+pub fn group_labels(pool: [Micro; MICROS], n: usize, params: DenParams, t: f64) -> [i64; MICROS]
+    ensures { λ r. ⌜ take n r ≡ labelsIn params t (seen (min (params .settings .dim) maxDim) n pool) ⌝ }
 {
     let end = lists::cut(n, MICROS);
     let mut a = [0usize; PAIRS];
@@ -40,14 +40,14 @@ pub fn group_labels(pool: [Micro; MICROS], n: usize, params: Params, t: f64) -> 
     let k = close_pairs(
         pool,
         end,
-        lists::cut(params.dim, MAX_DIM),
+        lists::cut(params.settings.dim, MAX_DIM),
         params.eps2,
         &mut a,
         &mut b,
     );
     let roots = union_find::roots(&a[..k], &b[..k], end);
-    let weights = pool::faded_weights(pool, end, params.lambda, t);
+    let weights = pool::faded_weights(pool, end, params.settings.lambda, t);
     let sums = labels::sums(roots, weights, end);
-    let counts = reaching(roots, sums, end, params.mu);
+    let counts = reaching(roots, sums, end, params.settings.mu);
     labels::labels(roots, counts, end)
 }

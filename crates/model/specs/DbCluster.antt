@@ -23,7 +23,7 @@ placeOf (m ∷ rest) id = cond (eqb (m .id .0) (id .0)) 0 (suc (placeOf rest id)
 
 -- "strong means faded weight ≥ min_weight"
 abbrev pub isStrong : State → DbMicro → Bool
-isStrong s m = le (s .params .minWeight) (fadedWeight (s .params .lambda) (s .t) m)
+isStrong s m = le (s .params .settings .«min_weight») (fadedWeight (s .params .settings .lambda) (s .t) m)
 
 abbrev pub strongOnes : State → List Bool
 strongOnes s = map (isStrong s) (s .held .micros)
@@ -34,7 +34,7 @@ strongAt s i = getD (strongOnes s) i false
 
 -- "a faded link ≥ alpha×min_weight"
 abbrev pub isDense : State → Link → Bool
-isDense s l = le (s .params .alpha ⊗ s .params .minWeight) (fadedLink (s .params .lambda) (s .t) l)
+isDense s l = le (s .params .settings .alpha ⊗ s .params .settings .«min_weight») (fadedLink (s .params .settings .lambda) (s .t) l)
 
 abbrev pub endsOf : State → Link → ℕ × ℕ
 endsOf s l = (placeOf (s .held .micros) (l .lo), placeOf (s .held .micros) (l .hi))
@@ -68,4 +68,4 @@ unfolding ofLink storedWeight
 connectivityOf s a b =
     let mean : Float = (storedWeight (s .held .micros) a ⊕ storedWeight (s .held .micros) b) ⊘ two in
     firstNo ((isHeld (s .held .micros) a && isHeld (s .held .micros) b && not (eqb (a .0) (b .0)), refuses 12 []) ∷ [])
-    (gives (ofLink (λ (l : Link). fadedLink (s .params .lambda) (s .t) l ⊘ mean) (absent (pairOf a b .0) (pairOf a b .1) (s .t)) (s .held .links)))
+    (gives (ofLink (λ (l : Link). fadedLink (s .params .settings .lambda) (s .t) l ⊘ mean) (absent (pairOf a b .0) (pairOf a b .1) (s .t)) (s .held .links)))

@@ -31,10 +31,10 @@ abbrev pub isNeighbour : (r : Float) → List Float → DbMicro → Bool
 isNeighbour r x m = le (distanceTo x (m .cf)) (r ⊗ r)
 
 abbrev pub neighboursOf : State → List Float → List DbMicro
-neighboursOf s x = retain (isNeighbour (s .params .r) x) (s .held .micros)
+neighboursOf s x = retain (isNeighbour (s .params .settings .r) x) (s .held .micros)
 
 abbrev pub isAbsorbed : State → List Float → Bool
-isAbsorbed s x = any (isNeighbour (s .params .r) x) (s .held .micros)
+isAbsorbed s x = any (isNeighbour (s .params .settings .r) x) (s .held .micros)
 
 -- "DBSTREAM's nearest is the minimum, a NaN losing to a number"
 unfoldable pub leastOf : List Float → Nearest
@@ -100,7 +100,7 @@ abbrev pub born : State → List Float → Holdings
 born s x =
     record {
       next = (s .held .next + 1) % 2 ^ 64;
-      micros = s .held .micros ++ newborn (s .params .dim) (record { 0 = s .held .next }) (s .t) x ∷ [];
+      micros = s .held .micros ++ newborn (s .params .settings .dim) (record { 0 = s .held .next }) (s .t) x ∷ [];
       links = s .held .links;
     }
 
@@ -112,8 +112,8 @@ abbrev pub joined : State → List Float → Holdings
 joined s x =
     record {
       next = s .held .next;
-      micros = map (absorbed (s .params .r) (s .params .lambda) (s .t) x) (s .held .micros);
-      links = foldl (gainOf (s .params .lambda) (s .t)) (s .held .links) (pairsOf (map idOf (neighboursOf s x)));
+      micros = map (absorbed (s .params .settings .r) (s .params .settings .lambda) (s .t) x) (s .held .micros);
+      links = foldl (gainOf (s .params .settings .lambda) (s .t)) (s .held .links) (pairsOf (map idOf (neighboursOf s x)));
     }
 
 abbrev pub placed : State → List Float → Holdings
@@ -135,5 +135,5 @@ linkStays lambda floor t ms l = isHeld ms (l .lo) && isHeld ms (l .hi) && not (l
 
 abbrev pub cleanup : Params → (t : Float) → Holdings → Holdings
 cleanup p t h =
-    let ms : List DbMicro = retain (microStays (p .lambda) (p .floor) t) (h .micros) in
-    record { next = h .next; micros = ms; links = retain (linkStays (p .lambda) (p .floor) t ms) (h .links) }
+    let ms : List DbMicro = retain (microStays (p .settings .lambda) (p .floor) t) (h .micros) in
+    record { next = h .next; micros = ms; links = retain (linkStays (p .settings .lambda) (p .floor) t ms) (h .links) }

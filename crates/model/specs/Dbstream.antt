@@ -24,17 +24,17 @@ dbstream =
       radius = λ p. p .r;
       nothing = record { next = 0; micros = []; links = [] };
       zeros = zeros;
-      dim = λ p. p .dim;
+      dim = λ p. p .settings .dim;
       size = λ h. length (h .micros);
       isAbsorbed = isAbsorbed;
       placed = placed;
       nearestFor = nearestFor;
-      period = λ p. p .tGap;
+      period = λ p. p .«t_gap»;
       cleaned = cleanup;
       labelsOf = labelsOf;
-      radius2 = λ p. p .r ⊗ p .r;
+      radius2 = λ p. p .settings .r ⊗ p .settings .r;
       featuresOf = λ h. map (λ (m : DbMicro). m .cf) (h .micros);
-      weightsOf = λ s. map (fadedWeight (s .params .lambda) (s .t)) (s .held .micros);
+      weightsOf = λ s. map (fadedWeight (s .params .settings .lambda) (s .t)) (s .held .micros);
     }
 
 abbrev pub asked : Settings → Opening

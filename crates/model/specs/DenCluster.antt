@@ -31,8 +31,8 @@ joinsOf s = pairsFrom (s .params .eps2) 0 (s .held .potential)
 
 -- the potential ones' weights, faded to the clock
 abbrev pub fadedWeights : State → List Float
-fadedWeights s = map (fadedWeight (s .params .lambda) (s .t)) (s .held .potential)
+fadedWeights s = map (fadedWeight (s .params .settings .lambda) (s .t)) (s .held .potential)
 
 unfoldable pub labelsOf : State → List ℤ
 unfolding labelsBy countedBy rowFrom pairsFrom
-labelsOf s = labelsBy (countedBy (s .params .mu) (fadedWeights s) (joinsOf s)) (joinsOf s)
+labelsOf s = labelsBy (countedBy (s .params .settings .mu) (fadedWeights s) (joinsOf s)) (joinsOf s)

@@ -11,11 +11,10 @@ use Rattle.lists.specs.Retain.{retain, without}
 use Rattle.drift.specs.declared.Nearest.{Nearest}
 use Rattle.drift.specs.declared.Nearest.the-variants.{Nothing, Distance}
 use Rattle.model.specs.declared.micro.Micro.{Micro}
-use Rattle.model.specs.declared.params.Params.{Params}
 use Rattle.model.specs.Fading as fading
 use Rattle.model.specs.Fading.{fadedTo, birth, distanceTo}
 use Rattle.model.specs.Nearest.{Near, nearestOf}
-use Rattle.model.specs.DenState.{Holdings, pooled, State}
+use Rattle.model.specs.DenState.{Params, Holdings, pooled, State}
 
 abbrev pub fadedWeight : (lambda t : Float) → Micro → Float
 fadedWeight lambda t m = fadedTo lambda t (m .cf .w) (m .last)
@@ -36,8 +35,8 @@ nearestIn x pool = nearestOf (λ (m : Micro). distanceTo x (m .cf)) pool
 abbrev pub trial : Params → (t : Float) → List Float → Option (Near Micro) → Option (Near Micro)
 trial p t x none = none
 trial p t x (some b) =
-    cond (stands (p .eps2) (absorbing (p .lambda) t x (b .micro)))
-    (some (record { place = b .place; micro = absorbing (p .lambda) t x (b .micro); dist = b .dist })) none
+    cond (stands (p .eps2) (absorbing (p .settings .lambda) t x (b .micro)))
+    (some (record { place = b .place; micro = absorbing (p .settings .lambda) t x (b .micro); dist = b .dist })) none
 
 abbrev pub trialIn : State → List Float → List Micro → Option (Near Micro)
 trialIn s x pool = trial (s .params) (s .t) x (nearestIn x pool)
@@ -57,7 +56,7 @@ newborn dim t x = record { cf = birth dim x; last = t; t0 = t }
 abbrev pub placedBy : State → List Float → (potential outlier : Option (Near Micro)) → Holdings
 placedBy s x (some b) o = pooled (set (s .held .potential) (b .place) (b .micro)) (s .held .outliers)
 placedBy s x none (some b) = outlierGrown s b
-placedBy s x none none = pooled (s .held .potential) (s .held .outliers ++ newborn (s .params .dim) (s .t) x ∷ [])
+placedBy s x none none = pooled (s .held .potential) (s .held .outliers ++ newborn (s .params .settings .dim) (s .t) x ∷ [])
 
 unfoldable pub placed : State → List Float → Holdings
 unfolding nearestOf
@@ -92,14 +91,14 @@ nearestFor s x =
 -- ---- the pruning, "order kept"
 -- "potential ones need faded w ≥ bm"
 abbrev pub potentialStays : Params → (t : Float) → Micro → Bool
-potentialStays p t m = le (p .bm) (fadedWeight (p .lambda) t m)
+potentialStays p t m = le (p .bm) (fadedWeight (p .settings .lambda) t m)
 
 -- "outliers need faded w ≥ (2^(−lambda×(t−t0+tp)) − 1) / (2^(−lambda×tp) − 1), t0 their birth"
 abbrev pub outlierNeeds : Params → (t t0 : Float) → Float
-outlierNeeds p t t0 = (twoTo (neg (p .lambda) ⊗ (t ⊖ t0 ⊕ p .tp)) ⊖ one) ⊘ (twoTo (neg (p .lambda) ⊗ p .tp) ⊖ one)
+outlierNeeds p t t0 = (twoTo (neg (p .settings .lambda) ⊗ (t ⊖ t0 ⊕ p .tp)) ⊖ one) ⊘ (twoTo (neg (p .settings .lambda) ⊗ p .tp) ⊖ one)
 
 abbrev pub outlierStays : Params → (t : Float) → Micro → Bool
-outlierStays p t m = le (outlierNeeds p t (m .t0)) (fadedWeight (p .lambda) t m)
+outlierStays p t m = le (outlierNeeds p t (m .t0)) (fadedWeight (p .settings .lambda) t m)
 
 abbrev pub pruned : Params → (t : Float) → Holdings → Holdings
 pruned p t h = pooled (retain (potentialStays p t) (h .potential)) (retain (outlierStays p t) (h .outliers))

@@ -1,23 +1,22 @@
 -- What a DenStream keeps, and its opening's questions. Definitions only.
-use Prim.Native.Nat.{ℕ}
 use mathlib.Core.Bool.{Bool}
 use mathlib.Core.List.{List, [], _∷_, _++_}
-use lib.Ieee.{Float, lt}
+use lib.Ieee.{lt}
 use Rattle.float.specs.Rounded.{_⊗_, nought, one}
 use Rattle.model.specs.declared.micro.Micro.{Micro}
-use Rattle.model.specs.declared.params.Params.{Params}
+use Rattle.model.specs.declared.settings.DenSettings.{DenSettings}
+use Rattle.model.specs.declared.params.DenParams.{DenParams}
 use Rattle.model.specs.declared.answers.Opening.{Opening}
 use Rattle.model.specs.declared.answers.Opening.the-variants.{BetaMu}
 use Rattle.model.specs.Questions as asks
 use Rattle.model.specs.Periods.{bmOf, tpOf}
 use Rattle.model.specs.Stream as stream
 
-pub record Settings : Type 0 where
-  pub dim : ℕ
-  pub eps : Float
-  pub lambda : Float
-  pub beta : Float
-  pub mu : Float
+abbrev pub Settings : Type 0
+Settings = DenSettings
+
+abbrev pub Params : Type 0
+Params = DenParams
 
 -- both pools in list order with all that is kept of each
 pub record Holdings : Type 0 where
@@ -33,11 +32,9 @@ State = stream.State Params Holdings
 abbrev pub paramsOf : Settings → Params
 paramsOf p =
     record {
-      dim = p .dim;
+      settings = p;
       eps2 = p .eps ⊗ p .eps;
-      lambda = p .lambda;
       bm = bmOf (p .beta) (p .mu);
-      mu = p .mu;
       tp = tpOf (p .lambda) (bmOf (p .beta) (p .mu));
     }
 

@@ -7,13 +7,12 @@ use lib.Ieee.{Float}
 use lib.ListN.{length}
 use Rattle.drift.specs.declared.Nearest.{Nearest}
 use Rattle.model.specs.declared.micro.Micro.{Micro}
-use Rattle.model.specs.declared.params.Params.{Params}
 use Rattle.model.specs.declared.answers.Opening.{Opening}
 use Rattle.model.specs.Answers.{Said}
 use Rattle.model.specs.Outcome.{Opened, Outcome}
 use Rattle.model.specs.ReadOut.{LabelsRead, Statistics}
 use Rattle.model.specs.Stream as stream
-use Rattle.model.specs.DenState.{Settings, Holdings, pooled, State, paramsOf, zeros, questions}
+use Rattle.model.specs.DenState.{Settings, Params, Holdings, pooled, State, paramsOf, zeros, questions}
 use Rattle.model.specs.DenInsert.{isAbsorbed, placed, nearestFor, pruned}
 use Rattle.model.specs.DenCluster.{fadedWeights, labelsOf}
 
@@ -25,7 +24,7 @@ denstream =
       radius = λ p. p .eps;
       nothing = pooled [] [];
       zeros = zeros;
-      dim = λ p. p .dim;
+      dim = λ p. p .settings .dim;
       size = λ h. length (h .potential) + length (h .outliers);
       isAbsorbed = isAbsorbed;
       placed = placed;

@@ -49,10 +49,10 @@ opening-said {S} {P} {H} k p o e = ap (λ (q : Opened (State P H)). openingNumbe
 
 pub db-opening-said :
     (p : db.Settings) (o : Opened db.State) → o ≡ openOf dbstream p →
-    openingNumber (o .answer) ≡ dbOpeningNo (p .dim) (p .r) (p .lambda) (p .alpha) (p .minWeight)
+    openingNumber (o .answer) ≡ dbOpeningNo p
 db-opening-said p o e = opening-said dbstream p o e
 
 pub den-opening-said :
     (p : den.Settings) (o : Opened den.State) → o ≡ openOf denstream p →
-    openingNumber (o .answer) ≡ denOpeningNo (p .dim) (p .eps) (p .lambda) (p .beta) (p .mu)
+    openingNumber (o .answer) ≡ denOpeningNo p
 den-opening-said p o e = opening-said denstream p o e

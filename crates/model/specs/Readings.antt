@@ -17,7 +17,6 @@ use Rattle.adwin.specs.Window.{newOf, updateOf}
 use Rattle.adwin.specs.History as window
 use Rattle.adwin.specs.Readings.{sizesOf, seven, seven-values}
 use Rattle.model.specs.Fading.{ticksOf}
-use Rattle.model.specs.declared.params.Params.{Params}
 use Rattle.model.specs.Answers.{openingNumber}
 use Rattle.model.specs.Any.{any}
 use Rattle.model.specs.Periods.{tpOf}
@@ -26,6 +25,7 @@ use Rattle.model.specs.Stream.{asked, tickOf, insertBy}
 use Rattle.model.specs.DbState.{Settings}
 use Rattle.model.specs.DbInsert.{leastOf, pairsOf, gainIn}
 use Rattle.model.specs.Dbstream as db
+use Rattle.model.specs.DenState.{Params}
 use Rattle.model.specs.Denstream as den
 use Rattle.model.specs.DenInsert.{outlierNeeds}
 
@@ -37,11 +37,11 @@ quarter = fin false 1 (negsuc 1)
 
 -- DBSTREAM: r 1, lambda 1
 abbrev unit : ℕ → Settings
-unit dim = record { dim = dim; r = one; lambda = one; alpha = one; minWeight = one }
+unit dim = record { dim = dim; r = one; lambda = one; alpha = one; «min_weight» = one }
 
 -- "lambda 0.25, bm 2: tp 4"
 abbrev fours : Params
-fours = record { dim = 1; eps2 = one; lambda = quarter; bm = two; mu = whole 4; tp = tpOf quarter two }
+fours = record { settings = record { dim = 1; eps = one; lambda = quarter; beta = half; mu = whole 4 }; eps2 = one; bm = two; tp = tpOf quarter two }
 
 pub readings :
     -- "Fade, lambda 1: gaps 0, 1, 3 give 1, 0.5, 0.125."

@@ -11,9 +11,8 @@ use borrow.Author.Tests.{lt-ltb, le-ltb}
 use Rattle.feature.specs.Feature.{maxDim}
 use Rattle.drift.specs.declared.Nearest.{Nearest}
 use Rattle.model.specs.declared.micro.Micro.{Micro}
-use Rattle.model.specs.declared.params.Params.{Params}
 use Rattle.model.specs.Limits.{microsMost}
-use Rattle.model.specs.DenState.{Holdings}
+use Rattle.model.specs.DenState.{Params, Holdings}
 use Rattle.model.specs.DenInsert.{smallerOf, newborn}
 use Rattle.pool.specs.declared.trial.Trial.{Trial}
 use Rattle.pool.specs.Held.{dimOf, settledOf, microIn, seen}

@@ -8,9 +8,8 @@ use lib.ListN.{length, set}
 use Rattle.lists.specs.Retain.{without}
 use Rattle.drift.specs.declared.Nearest.{Nearest}
 use Rattle.model.specs.declared.micro.Micro.{Micro}
-use Rattle.model.specs.declared.params.Params.{Params}
 use Rattle.model.specs.Limits.{microsMost}
-use Rattle.model.specs.DenState.{Holdings, pooled}
+use Rattle.model.specs.DenState.{Params, Holdings, pooled}
 use Rattle.model.specs.DenInsert.{newborn, smallerOf}
 use Rattle.pool.specs.declared.trial.Trial.{Trial}
 use Rattle.pool.specs.Held.{microIn}
@@ -28,7 +27,7 @@ grownTo bm m = cond (le bm (m .cf .w)) Promotion Outlier
 abbrev pub elseBy : Params → (t : Float) → List Float → (room : Bool) → Nearest → (outlier : Trial) → Placement
 elseBy p t x room near b =
     cond (b .stands) (record { target = grownTo (p .bm) (b .micro); place = b .place; micro = b .micro; near = near })
-    (record { target = cond room Newborn Nowhere; place = 0; micro = newborn (p .dim) t x; near = near })
+    (record { target = cond room Newborn Nowhere; place = 0; micro = newborn (p .settings .dim) t x; near = near })
 
 -- "The nearest potential one is tried first"; the drift distance is "the potential pool's if it merged there, else the smaller of both"
 abbrev pub placementBy : Params → (t : Float) → List Float → (room : Bool) → (potential outlier : Trial) → Placement

@@ -60,7 +60,7 @@ module _ (s : State) (x : List Float) (a b : Trial) (ea : Trying s x (s .held .p
   grown u = record { target = cond u Promotion Outlier; place = b .place; micro = b .micro; near = near }
 
   abbrev alone : Bool → Placement
-  alone u = record { target = cond u Newborn Nowhere; place = 0; micro = newborn (s .params .dim) (s .t) x; near = near }
+  alone u = record { target = cond u Newborn Nowhere; place = 0; micro = newborn (s .params .settings .dim) (s .t) x; near = near }
 
   abbrev heavy : Bool
   heavy = le (s .params .bm) (b .micro .cf .w)

@@ -12,8 +12,7 @@ use Rattle.lists.specs.Rest.{take-set}
 use Rattle.lists.specs.Maps.{map-set, map-append, map-retain}
 use Rattle.lists.specs.Sizes.{retain-length, without-length}
 use Rattle.model.specs.declared.micro.Micro.{Micro}
-use Rattle.model.specs.declared.params.Params.{Params}
-use Rattle.model.specs.DenState.{Holdings, pooled}
+use Rattle.model.specs.DenState.{Params, Holdings, pooled}
 use Rattle.model.specs.DenInsert.{potentialStays, outlierStays, pruned}
 use Rattle.pool.specs.declared.pool.Pool.{Pool}
 use Rattle.pool.specs.Held.{held, microIn, seen}

@@ -5,9 +5,8 @@ use lib.IntN.{ℤ}
 use lib.Ieee.{Float}
 use Rattle.drift.specs.Monitor.{Monitor}
 use Rattle.model.specs.declared.micro.Micro.{Micro}
-use Rattle.model.specs.declared.params.Params.{Params}
 use Rattle.model.specs.Limits.{microsMost}
-use Rattle.model.specs.DenState.{Holdings, pooled, State}
+use Rattle.model.specs.DenState.{Params, Holdings, pooled, State}
 use Rattle.pool.specs.Held.{dimOf, settledOf, seen}
 
 -- how many are held: never more than 64 in both pools together

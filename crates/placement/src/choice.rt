@@ -3,9 +3,9 @@ use crate::counts::outliers_held;
 use crate::counts::potential_held;
 use drift::Nearest;
 use feature::MAX_DIM;
+use model::DenParams;
 use model::MICROS;
 use model::Micro;
-use model::Params;
 ghost use mathlib.Core.Path.{_≡_};
 ghost use lib.ListN.{take};
 ghost use Rattle.model.specs.DenInsert.{smallerOf};
@@ -94,7 +94,7 @@ pub fn place(
     potential_count: usize,
     outliers: [Micro; MICROS],
     outlier_count: usize,
-    params: Params,
+    params: DenParams,
     t: f64,
     x: [f64; MAX_DIM],
 ) -> Placement
@@ -117,7 +117,7 @@ pub fn place(
         let m = o.micro;
         return Placement::new(grown(m, params.bm), o.place, m, near);
     }
-    let m = pool::newborn(t, x, lists::cut(params.dim, MAX_DIM));
+    let m = pool::newborn(t, x, lists::cut(params.settings.dim, MAX_DIM));
     if np + no < MICROS {
         return Placement::new(Target::Newborn, 0, m, near);
     }

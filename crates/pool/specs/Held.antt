@@ -6,8 +6,8 @@ use lib.ListN.{take}
 use Rattle.feature.specs.declared.spherical.Spherical.{Spherical}
 use Rattle.feature.specs.Feature.{maxDim, within}
 use Rattle.model.specs.declared.micro.Micro.{Micro}
-use Rattle.model.specs.declared.params.Params.{Params}
 use Rattle.model.specs.Fading.{distanceTo}
+use Rattle.model.specs.DenState.{Settings, Params}
 use Rattle.pool.specs.declared.pool.Pool.{Pool}
 
 abbrev pub held : Pool → List Micro
@@ -15,11 +15,14 @@ held p = take (p .count) (p .micros)
 
 -- never more than 15 coordinates
 abbrev pub dimOf : Params → ℕ
-dimOf p = min (p .dim) maxDim
+dimOf p = min (p .settings .dim) maxDim
+
+-- g of so many coordinates
+abbrev pub withDim : Settings → ℕ → Settings
+withDim g dim = record { dim = dim; eps = g .eps; lambda = g .lambda; beta = g .beta; mu = g .mu }
 
 abbrev pub settledOf : Params → Params
-settledOf p =
-    record { dim = dimOf p; eps2 = p .eps2; lambda = p .lambda; bm = p .bm; mu = p .mu; tp = p .tp }
+settledOf p = record { settings = withDim (p .settings) (dimOf p); eps2 = p .eps2; bm = p .bm; tp = p .tp }
 
 -- a micro-cluster kept in 15 places, as that of dim coordinates which it is
 abbrev pub microIn : (dim : ℕ) → Micro → Micro

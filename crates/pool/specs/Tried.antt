@@ -6,17 +6,17 @@ use mathlib.Core.Option.{Option, none, some}
 use lib.Ieee.{Float}
 use Rattle.drift.specs.declared.Nearest.the-variants.{Nothing, Distance}
 use Rattle.model.specs.declared.micro.Micro.{Micro}
-use Rattle.model.specs.declared.params.Params.{Params}
 use Rattle.model.specs.Nearest.{Near}
+use Rattle.model.specs.DenState.{Params}
 use Rattle.model.specs.DenInsert.{nearestIn, absorbing, stands, newborn}
 use Rattle.pool.specs.declared.trial.Trial.{Trial}
 use Rattle.pool.specs.Held.{microIn}
 
 -- "a copy faded to t absorbs the point and stands if w > 0 and ssd/w ≤ eps×eps"; without a nearest, the point alone at place 0
 abbrev pub triedBy : Params → (t : Float) → List Float → Option (Near Micro) → Trial
-triedBy p t x none = record { near = Nothing; stands = false; place = 0; micro = newborn (p .dim) t x }
+triedBy p t x none = record { near = Nothing; stands = false; place = 0; micro = newborn (p .settings .dim) t x }
 triedBy p t x (some b) =
-    let copy : Micro = absorbing (p .lambda) t x (b .micro) in
+    let copy : Micro = absorbing (p .settings .lambda) t x (b .micro) in
     record { near = Distance (b .dist); stands = stands (p .eps2) copy; place = b .place; micro = copy }
 
 abbrev pub triedOf : Params → (t : Float) → List Float → List Micro → Trial

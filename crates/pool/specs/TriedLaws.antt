@@ -15,9 +15,9 @@ use Rattle.feature.specs.Within.{pushed-within, empty-within}
 use Rattle.drift.specs.declared.Nearest.{Nearest}
 use Rattle.drift.specs.declared.Nearest.the-variants.{Nothing, Distance}
 use Rattle.model.specs.declared.micro.Micro.{Micro}
-use Rattle.model.specs.declared.params.Params.{Params}
 use Rattle.model.specs.Nearest.{Near}
 use Rattle.model.specs.Fading.{distanceTo}
+use Rattle.model.specs.DenState.{Params}
 use Rattle.model.specs.DenInsert.{nearestIn, trial, distanceOf, absorbing, newborn}
 use Rattle.readout.specs.Found.{foundOf}
 use Rattle.readout.specs.NearestLaws.{found-at}

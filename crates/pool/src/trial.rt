@@ -5,9 +5,9 @@ use crate::micro::stands;
 use crate::pool::distances;
 use drift::Nearest;
 use feature::MAX_DIM;
+use model::DenParams;
 use model::MICROS;
 use model::Micro;
-use model::Params;
 use readout::Found;
 ghost use mathlib.Core.Path.{_≡_};
 ghost use lib.ListN.{take};
@@ -27,13 +27,13 @@ pub struct Trial {
 pub fn try_merge(
     pool: [Micro; MICROS],
     n: usize,
-    params: Params,
+    params: DenParams,
     t: f64,
     x: [f64; MAX_DIM],
 ) -> Trial
     ensures { λ r. ⌜ trialTold (dimOf params) r ≡ triedOf (settledOf params) t (take (dimOf params) x) (seen (dimOf params) n pool) ⌝ }
 {
-    let dim = lists::cut(params.dim, MAX_DIM);
+    let dim = lists::cut(params.settings.dim, MAX_DIM);
     let found = readout::nearest(distances(pool, n, x, dim), n);
     let Found::At { place, dist } = found else {
         return Trial {
@@ -44,7 +44,7 @@ pub fn try_merge(
         };
     };
     let m = pool[place];
-    let micro = absorbing(m, params.lambda, t, x, dim);
+    let micro = absorbing(m, params.settings.lambda, t, x, dim);
     Trial {
         near: Nearest::Distance(dist),
         stands: stands(micro, params.eps2),

@@ -1,5 +1,6 @@
 // "lambda 0.25, beta 0.5, mu 4, eps 1, points 0, 0, 0: one potential, label −1."
 use denstream::DenStream;
+use model::DenSettings;
 
 const STDOUT: i32 = 1;
 
@@ -10,7 +11,13 @@ fn with_zero(s: DenStream) -> DenStream {
 
 // Prints how many potential ones there are, and whether the first has the label -1.
 pub fn three_zeros() {
-    let opened = DenStream::new(1, 1.0, 0.25, 0.5, 4.0);
+    let opened = DenStream::new(DenSettings {
+        dim: 1,
+        eps: 1.0,
+        lambda: 0.25,
+        beta: 0.5,
+        mu: 4.0,
+    });
     let s = opened.stream;
     let clustered = with_zero(with_zero(with_zero(s))).cluster();
     let mut labels = [0i64; 64];

@@ -23,6 +23,7 @@ use crate::output::say;
 use dbstream::DbStream;
 use dbstream::Opened;
 use model::DbMicro;
+use model::DbSettings;
 use model::LINKS;
 use model::Link;
 use model::MICROS;
@@ -151,18 +152,36 @@ fn figures(line: &mut [u8], s: DbStream) {
     let t = put_whole(line, head, s.t);
     let next = s.next_id;
     let i = put_number(line, t, next.0);
-    let m = put_micros(line, i, micros, s.count, s.dim);
+    let m = put_micros(line, i, micros, s.count, s.params.settings.dim);
     let l = put_links(line, m, links, s.link_count);
     let k = put_labels(line, l, kept, s.label_count);
     let d = put_monitor(line, k, monitor);
     end(line, d);
 }
 
+// A stream of zeros, until one is opened.
+pub fn unopened() -> DbStream {
+    let refused = DbStream::new(DbSettings {
+        dim: 0,
+        r: 0.0,
+        lambda: 0.0,
+        alpha: 0.0,
+        min_weight: 0.0,
+    });
+    refused.stream
+}
+
 pub fn open(r: Record) -> Opened {
     let mut line = [0u8; ROOM];
     let words = r.words;
     let xs = doubles(words);
-    let opened = DbStream::new(words[0] as usize, xs[1], xs[2], xs[3], xs[4]);
+    let opened = DbStream::new(DbSettings {
+        dim: words[0] as usize,
+        r: xs[1],
+        lambda: xs[2],
+        alpha: xs[3],
+        min_weight: xs[4],
+    });
     let answer = opened.answer;
     say_opening(&mut line, answer);
     opened

@@ -20,6 +20,7 @@ use crate::output::put_whole;
 use crate::output::say;
 use denstream::DenStream;
 use denstream::Opened;
+use model::DenSettings;
 use model::MICROS;
 use model::Micro;
 use model::Reading;
@@ -130,11 +131,29 @@ fn figures(line: &mut [u8], s: DenStream) {
     end(line, d);
 }
 
+// A stream of zeros, until one is opened.
+pub fn unopened() -> DenStream {
+    let refused = DenStream::new(DenSettings {
+        dim: 0,
+        eps: 0.0,
+        lambda: 0.0,
+        beta: 0.0,
+        mu: 0.0,
+    });
+    refused.stream
+}
+
 pub fn open(r: Record) -> Opened {
     let mut line = [0u8; ROOM];
     let words = r.words;
     let xs = doubles(words);
-    let opened = DenStream::new(words[0] as usize, xs[1], xs[2], xs[3], xs[4]);
+    let opened = DenStream::new(DenSettings {
+        dim: words[0] as usize,
+        eps: xs[1],
+        lambda: xs[2],
+        beta: xs[3],
+        mu: xs[4],
+    });
     let answer = opened.answer;
     say_opening(&mut line, answer);
     opened

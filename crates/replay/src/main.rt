@@ -11,8 +11,6 @@ mod output;
 mod window;
 
 use adwin::Adwin;
-use dbstream::DbStream;
-use denstream::DenStream;
 use input::STOP;
 use input::next_record;
 use output::ROOM;
@@ -29,10 +27,8 @@ const DENSTREAM: u64 = 2;
 // Each record acts on the current stream or on the current window; a refused opening leaves the current stream as it was.
 // The three are variables of this loop and of nothing larger, so that a call copies only what it acts on.
 fn main() {
-    let no_db = DbStream::new(0, 0.0, 0.0, 0.0, 0.0);
-    let no_den = DenStream::new(0, 0.0, 0.0, 0.0, 0.0);
-    let mut db = no_db.stream;
-    let mut den = no_den.stream;
+    let mut db = db::unopened();
+    let mut den = den::unopened();
     let mut watched = Watched {
         window: Adwin::new(0.0),
         open: false,

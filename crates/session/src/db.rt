@@ -1,6 +1,7 @@
 // A whole run of a DBSTREAM.
 use crate::points::end_of;
 use dbstream::DbStream;
+use model::DbSettings;
 ghost use mathlib.Core.Path.{_≡_};
 ghost use mathlib.Core.List.{_++_, map};
 ghost use Prim.Native.Nat.{_≤_};
@@ -8,7 +9,7 @@ ghost use lib.ListN.{length, drop};
 ghost use Rattle.model.specs.Answers.{insertionNumber};
 ghost use Rattle.model.specs.Run.{runOf, answersOf};
 ghost use Rattle.model.specs.Dbstream.{openOf, insertOf, clusterOf};
-ghost use Rattle.dbstream.specs.Stream.{view, settings};
+ghost use Rattle.dbstream.specs.Stream.{view};
 ghost use Rattle.session.specs.Points.{pointsOf};
 ghost use Rattle.session.specs.Whole.{sessionOf};
 ghost use Rattle.session.specs.DbRuns.{RunTold};
@@ -43,19 +44,15 @@ fn inserts(stream: DbStream, values: &[f64], lengths: &[usize], numbers: &mut [u
 
 // Opens, inserts and clusters; `numbers` gets 0 or the refusal's number of each insert.
 pub fn dbstream_session(
-    dim: usize,
-    r: f64,
-    lambda: f64,
-    alpha: f64,
-    min_weight: f64,
+    settings: DbSettings,
     values: &[f64],
     lengths: &[usize],
     numbers: &mut [u64],
 ) -> DbSession
-    ensures { λ o. ⌜ told o (now (numbers .exit)) ≡ sessionOf insertOf clusterOf (openOf (settings dim r lambda alpha «min_weight»)) (pointsOf (now (lengths .entry)) (now (values .entry))) (now (numbers .entry)) ⌝ }
-    ensures demand { λ o. ⌜ (o .number ≡ 0 → RunTold (settings dim r lambda alpha «min_weight») (pointsOf (now (lengths .entry)) (now (values .entry))) (view (o .stream))) ⌝ }
+    ensures { λ o. ⌜ told o (now (numbers .exit)) ≡ sessionOf insertOf clusterOf (openOf settings) (pointsOf (now (lengths .entry)) (now (values .entry))) (now (numbers .entry)) ⌝ }
+    ensures demand { λ o. ⌜ (o .number ≡ 0 → RunTold settings (pointsOf (now (lengths .entry)) (now (values .entry))) (view (o .stream))) ⌝ }
 {
-    let opened = DbStream::new(dim, r, lambda, alpha, min_weight);
+    let opened = DbStream::new(settings);
     let stream = opened.stream;
     let answer = opened.answer;
     let number = answer.number();

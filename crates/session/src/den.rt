@@ -1,6 +1,7 @@
 // A whole run of a DenStream.
 use crate::points::end_of;
 use denstream::DenStream;
+use model::DenSettings;
 ghost use mathlib.Core.Path.{_≡_};
 ghost use mathlib.Core.List.{_++_, map};
 ghost use Prim.Native.Nat.{_≤_};
@@ -12,7 +13,7 @@ ghost use Rattle.denstream.specs.View.{view};
 ghost use Rattle.session.specs.Points.{pointsOf};
 ghost use Rattle.session.specs.Whole.{sessionOf};
 ghost use Rattle.session.specs.DenRuns.{RunTold};
-ghost use Rattle.session.specs.DenTold.{settings, told};
+ghost use Rattle.session.specs.DenTold.{told};
 
 // 0, or the number with which the run was refused, and the stream.
 pub struct DenSession {
@@ -43,19 +44,15 @@ fn inserts(stream: DenStream, values: &[f64], lengths: &[usize], numbers: &mut [
 
 // Opens, inserts and clusters; `numbers` gets 0 or the refusal's number of each insert.
 pub fn denstream_session(
-    dim: usize,
-    eps: f64,
-    lambda: f64,
-    beta: f64,
-    mu: f64,
+    settings: DenSettings,
     values: &[f64],
     lengths: &[usize],
     numbers: &mut [u64],
 ) -> DenSession
-    ensures { λ o. ⌜ told o (now (numbers .exit)) ≡ sessionOf insertOf clusterOf (openOf (settings dim eps lambda beta mu)) (pointsOf (now (lengths .entry)) (now (values .entry))) (now (numbers .entry)) ⌝ }
-    ensures demand { λ o. ⌜ (o .number ≡ 0 → RunTold (settings dim eps lambda beta mu) (pointsOf (now (lengths .entry)) (now (values .entry))) (view (o .stream))) ⌝ }
+    ensures { λ o. ⌜ told o (now (numbers .exit)) ≡ sessionOf insertOf clusterOf (openOf settings) (pointsOf (now (lengths .entry)) (now (values .entry))) (now (numbers .entry)) ⌝ }
+    ensures demand { λ o. ⌜ (o .number ≡ 0 → RunTold settings (pointsOf (now (lengths .entry)) (now (values .entry))) (view (o .stream))) ⌝ }
 {
-    let opened = DenStream::new(dim, eps, lambda, beta, mu);
+    let opened = DenStream::new(settings);
     let stream = opened.stream;
     let answer = opened.answer;
     let number = answer.number();

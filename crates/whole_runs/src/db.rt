@@ -1,9 +1,10 @@
 // A whole run of a DBSTREAM.
 use crate::figures::Figures;
 use dbstream::DbStream;
+use model::DbSettings;
 ghost use mathlib.Core.Path.{_≡_};
 ghost use Rattle.model.specs.Dbstream.{clusterOf};
-ghost use Rattle.dbstream.specs.Stream.{view, settings};
+ghost use Rattle.dbstream.specs.Stream.{view};
 ghost use Rattle.session.specs.Points.{pointsOf};
 ghost use Rattle.whole_runs.specs.Told.{iterate, told};
 ghost use Rattle.whole_runs.specs.Streams.{dbstreamFigures, dbstreamRun};
@@ -48,18 +49,16 @@ pub extern "C" fn dbstream_run(
     numbers: &mut [u64],
 ) -> Figures
     ensures { λ f. ⌜ told f (now (numbers .exit))
-        ≡ dbstreamRun (settings dim r lambda alpha «min_weight») (pointsOf (now (lengths .entry)) (now (values .entry))) rounds (now (numbers .entry)) ⌝ }
+        ≡ dbstreamRun (record { dim = dim; r = r; lambda = lambda; alpha = alpha; «min_weight» = «min_weight» }) (pointsOf (now (lengths .entry)) (now (values .entry))) rounds (now (numbers .entry)) ⌝ }
 {
-    let run = session::dbstream_session(
+    let settings = DbSettings {
         dim,
         r,
         lambda,
         alpha,
         min_weight,
-        values,
-        lengths,
-        numbers,
-    );
+    };
+    let run = session::dbstream_session(settings, values, lengths, numbers);
     let stream = run.stream;
     let last = clustered(stream, rounds);
     figures_of(run.number, last)

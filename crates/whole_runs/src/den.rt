@@ -1,11 +1,11 @@
 // A whole run of a DenStream.
 use crate::figures::Figures;
 use denstream::DenStream;
+use model::DenSettings;
 ghost use mathlib.Core.Path.{_≡_};
 ghost use Rattle.model.specs.Denstream.{clusterOf};
 ghost use Rattle.denstream.specs.View.{view};
 ghost use Rattle.session.specs.Points.{pointsOf};
-ghost use Rattle.session.specs.DenTold.{settings};
 ghost use Rattle.whole_runs.specs.Told.{iterate, told};
 ghost use Rattle.whole_runs.specs.Streams.{denstreamFigures, denstreamRun};
 
@@ -49,9 +49,16 @@ pub extern "C" fn denstream_run(
     numbers: &mut [u64],
 ) -> Figures
     ensures { λ f. ⌜ told f (now (numbers .exit))
-        ≡ denstreamRun (settings dim eps lambda beta mu) (pointsOf (now (lengths .entry)) (now (values .entry))) rounds (now (numbers .entry)) ⌝ }
+        ≡ denstreamRun (record { dim = dim; eps = eps; lambda = lambda; beta = beta; mu = mu }) (pointsOf (now (lengths .entry)) (now (values .entry))) rounds (now (numbers .entry)) ⌝ }
 {
-    let run = session::denstream_session(dim, eps, lambda, beta, mu, values, lengths, numbers);
+    let settings = DenSettings {
+        dim,
+        eps,
+        lambda,
+        beta,
+        mu,
+    };
+    let run = session::denstream_session(settings, values, lengths, numbers);
     let stream = run.stream;
     let last = clustered(stream, rounds);
     figures_of(run.number, last)

@@ -42,9 +42,9 @@ returns c =
     let n = c .before .before .before .before .before .before .before .before .before .before .before .before .before .potential-held in
     let fs = c .before .before .before .before .before .before .before .before .before .before .before .features in
     let ws = c .before .before .before .before .before .before .before .before .before .before .faded-weights in
-    let d = min (s .params .dim) maxDim in
-    told featureOf (microIn d) (s .params .dim) (n .result) (λ m. refl) (s .potential) (fs .result) (fs .ensures) (fadedWeight (s .params .lambda) (s .t)) (λ m. refl) (take (n .result) (ws .result)) (a .centres .now) (a .weights .now) (a .radii .now) _ (ws .ensures) (c .before .before .before .before .before .before .statistics .ensures)
-    ∙ ap (λ (h : ℕ). statisticsRead (map featureOf (seen d h (s .potential))) (map (fadedWeight (s .params .lambda) (s .t)) (seen d h (s .potential))) (a .centres .now) (a .weights .now) (a .radii .now)) (n .ensures)
+    let d = min (s .params .settings .dim) maxDim in
+    told featureOf (microIn d) (s .params .settings .dim) (n .result) (λ m. refl) (s .potential) (fs .result) (fs .ensures) (fadedWeight (s .params .settings .lambda) (s .t)) (λ m. refl) (take (n .result) (ws .result)) (a .centres .now) (a .weights .now) (a .radii .now) _ (ws .ensures) (c .before .before .before .before .before .before .statistics .ensures)
+    ∙ ap (λ (h : ℕ). statisticsRead (map featureOf (seen d h (s .potential))) (map (fadedWeight (s .params .settings .lambda) (s .t)) (seen d h (s .potential))) (a .centres .now) (a .weights .now) (a .radii .now)) (n .ensures)
 
 pub potential-stats-spec : {M : Type 1} → statement M
 potential-stats-spec =

@@ -28,9 +28,9 @@ returns c =
     let s = a .stream in
     let n = c .before .before .before .before .potential-held in
     let fs = c .before .before .features in
-    let d = min (s .params .dim) maxDim in
+    let d = min (s .params .settings .dim) maxDim in
     let labels = take (s .«label_count») (s .labels) in
-    predicted featureOf (microIn d) (s .params .dim) (n .result) (λ m. refl) (s .potential) (fs .result) (fs .ensures) (s .params .eps2) labels (a .x .now) _ (c .predict .ensures)
+    predicted featureOf (microIn d) (s .params .settings .dim) (n .result) (λ m. refl) (s .potential) (fs .result) (fs .ensures) (s .params .eps2) labels (a .x .now) _ (c .predict .ensures)
     ∙ ap (λ (h : ℕ). predictOf d (s .params .eps2) (map featureOf (seen d h (s .potential))) labels (a .x .now)) (n .ensures)
 
 pub try-predict-spec : {M : Type 1} → statement M

@@ -37,7 +37,7 @@ returns c =
     let ids = c .before .before .before .before .before .ids-of in
     let labels = c .before .before .before .labels2 in
     let report = c .before .drift in
-    let places : length (u .result .micros) ≡ 64 = sym (length-map (u .result .micros) _) ∙ u .ok .1 .1 .1 .1 .1 .1 .1 .1 .1 .1 .1 .0 .1 .0 .1 in
+    let places : length (u .result .micros) ≡ 64 = sym (length-map (u .result .micros) _) ∙ u .ok .1 .1 .1 .1 .1 .0 .1 .0 .1 in
     c .listing .ensures
     ∙ text-is (view (s .stream)) (view (u .result)) (n .result) (ids .result) (labels .result) (labels .last .1 .0) (replicate 64 (negsuc 0)) (report .result) (search needs) refl (u .ensures)
     (record { count = n .ensures; names = ids-are (u .result) (n .result) (ids .result) (n .ensures) places (ids .ensures); told = labels .ensures; drift = report .ensures })

@@ -8,14 +8,14 @@ Inv-loop db₀ den₀ watched₀ kind₀ left₀ t15 db den watched kind left = 
 abbrev μ-loop : tie.MeasureT-loop
 μ-loop db₀ den₀ watched₀ kind₀ left₀ t15 db den watched kind left = left
 
+unopened-requires : tie.Need-unopened-requires Inv-loop μ-loop
+unopened-requires c κs = search needs
+
+unopened-requires-2 : tie.Need-unopened-requires-2 Inv-loop μ-loop
+unopened-requires-2 c κs = search needs
+
 new-requires : tie.Need-new-requires Inv-loop μ-loop
 new-requires c κs = search needs
-
-new-requires-2 : tie.Need-new-requires-2 Inv-loop μ-loop
-new-requires-2 c κs = search needs
-
-new-requires-3 : tie.Need-new-requires-3 Inv-loop μ-loop
-new-requires-3 c κs = search needs
 
 loop-holds : tie.Need-loop-holds Inv-loop μ-loop
 loop-holds c = tt
@@ -77,9 +77,9 @@ main-spec =
     (tie.spec
     Inv-loop
     μ-loop
+    unopened-requires
+    unopened-requires-2
     new-requires
-    new-requires-2
-    new-requires-3
     loop-holds
     next-record-requires
     returns

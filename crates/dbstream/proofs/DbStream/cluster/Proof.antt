@@ -14,7 +14,7 @@ labels-of-requires c κs = search needs
 
 returns : tie.Need-returns
 returns c =
-    let s = c .before .before .before .before .before .before .args .self in
+    let s = c .before .before .before .before .before .before .before .args .self in
     let strong = c .before .before .before .before .strong-ones in
     let ids = c .before .before .before .ids-of in
     clustered s (strong .result) (strong .ensures) (ids .result) (ids .ensures) (c .labels-of .result) (c .labels-of .ensures)

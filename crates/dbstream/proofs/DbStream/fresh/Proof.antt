@@ -1,6 +1,6 @@
 use Prim.Native.Nat.{min}
 use Rattle.drift.specs.Monitor as drift
-use Rattle.dbstream.specs.Stream.{settings}
+use Rattle.dbstream.specs.Stream.{withDim}
 use Rattle.dbstream.proofs.Openings.{fresh-is}
 use borrow.Author.Needs.{needs}
 use Rattle.dbstream.proofs.DbStream.fresh.Statement.{statement}
@@ -21,7 +21,7 @@ new-requires-2 c κs = search needs
 returns : tie.Need-returns
 returns c =
     let a = c .before .before .before .before .args in
-    fresh-is (settings (min (a .dim) 15) (a .r) (a .lambda) (a .alpha) (a .«min-weight»)) (c .before .before .«t-gap» .result) (c .before .floor .result) (drift.view (c .new2 .result)) (c .before .before .«t-gap» .ensures) (c .before .floor .ensures) (c .new2 .ensures)
+    fresh-is (withDim (a .settings) (min (a .settings .dim) 15)) (c .before .before .«t-gap» .result) (c .before .floor .result) (drift.view (c .new2 .result)) (c .before .before .«t-gap» .ensures) (c .before .floor .ensures) (c .new2 .ensures)
 
 pub fresh-spec : {M : Type 1} → statement M
 fresh-spec = tie.close (tie.spec new-requires t-gap-requires floor-requires new-requires-2 returns)

@@ -14,7 +14,7 @@ cut-requires c κs = search needs
 returns : tie.Need-returns
 returns c =
     let s = c .before .args .self in
-    let l : length (s .micros) ≡ 64 = sym (length-map (s .micros) _) ∙ c .before .good .0 .1 .1 .1 .1 .1 .1 .1 .1 .1 .1 .1 .0 .1 .0 .1 in
+    let l : length (s .micros) ≡ 64 = sym (length-map (s .micros) _) ∙ c .before .good .0 .1 .1 .1 .1 .1 .0 .1 .0 .1 in
     omega (arith, c .cut .ensures, map-length (cutTo (dimOf s)) (take (s .count) (s .micros)), length-take (s .count) (s .micros))
 
 pub micro-count-spec : {M : Type 1} → statement M

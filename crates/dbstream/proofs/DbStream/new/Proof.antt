@@ -1,6 +1,6 @@
 use mathlib.Core.Path.{sym, _∙_}
 use Rattle.model.specs.Stream.{asked}
-use Rattle.dbstream.specs.Stream.{view, settings}
+use Rattle.dbstream.specs.Stream.{view}
 use Rattle.dbstream.proofs.Openings.{opens, stays-shut, both}
 use borrow.Author.Needs.{needs}
 use Rattle.dbstream.proofs.DbStream.new.Statement.{statement}
@@ -19,8 +19,8 @@ returns : tie.Need-returns
 unfolding asked
 returns c =
     let a = c .before .before .before .before .args in
-    both (settings (a .dim) (a .r) (a .lambda) (a .alpha) (a .«min-weight»)) _
-    (opens (a .dim) (a .r) (a .lambda) (a .alpha) (a .«min-weight») (c .before .before .before .asked .result) (c .before .before .before .asked .ensures) (view (c .fresh .result)) (sym (c .before .before .«is-open» .ensures) ∙ c .before .if1 .taken) (c .fresh .ensures))
+    both (a .settings) _
+    (opens (a .settings) (c .before .before .before .asked .result) (c .before .before .before .asked .ensures) (view (c .fresh .result)) (sym (c .before .before .«is-open» .ensures) ∙ c .before .if1 .taken) (c .fresh .ensures))
 
 fresh-requires-2 : tie.Need-fresh-requires-2
 fresh-requires-2 c κs = search needs
@@ -29,8 +29,8 @@ returns-2 : tie.Need-returns-2
 unfolding asked
 returns-2 c =
     let a = c .before .before .before .before .args in
-    both (settings (a .dim) (a .r) (a .lambda) (a .alpha) (a .«min-weight»)) _
-    (stays-shut (a .dim) (a .r) (a .lambda) (a .alpha) (a .«min-weight») (c .before .before .before .asked .result) (c .before .before .before .asked .ensures) (view (c .fresh2 .result)) (sym (c .before .before .«is-open» .ensures) ∙ c .before .if1 .left) (c .fresh2 .ensures))
+    both (a .settings) _
+    (stays-shut (a .settings) (c .before .before .before .asked .result) (c .before .before .before .asked .ensures) (view (c .fresh2 .result)) (sym (c .before .before .«is-open» .ensures) ∙ c .before .if1 .left) (c .fresh2 .ensures))
 
 pub new-spec : {M : Type 1} → statement M
 new-spec =

@@ -24,7 +24,7 @@ abbrev μ-loop : tie.MeasureT-loop
 
 -- the places of the arrays
 links-room : (c : tie.Start Inv-loop μ-loop) → length (c .args .t1 .links) ≡ 2016
-links-room c = sym (length-map (c .args .t1 .links) _) ∙ c .good .0 .1 .1 .1 .1 .1 .1 .1 .1 .1 .1 .1 .1 .1 .0 .1 .0 .1
+links-room c = sym (length-map (c .args .t1 .links) _) ∙ c .good .0 .1 .1 .1 .1 .1 .1 .1 .0 .1 .0 .1
 
 ids-room : (c : tie.Start Inv-loop μ-loop) → length (c .args .scan .ids) ≡ 64
 ids-room c = sym (length-map (c .args .scan .ids) _) ∙ c .good .1 .1 .0 .1 .1 .1 .1 .0 .1 .0 .1
@@ -44,7 +44,7 @@ loop-holds : tie.Need-loop-holds Inv-loop μ-loop
 loop-holds c =
     let e = c .before .before .before .before .before .before .before .before in
     let s = e .args .t1 in
-    (linked-first _, starts (s .lambda) (s .t) (e .args .scan .ids) (e .args .scan .count) (e .args .scan .count) (s .links) (s .«link_count») (c .first .result) (ids-room e) (omega (arith, e .pre)) (links-room e) (c .first .ensures), links-room e)
+    (linked-first _, starts (s .params .settings .lambda) (s .t) (e .args .scan .ids) (e .args .scan .count) (e .args .scan .count) (s .links) (s .«link_count») (c .first .result) (ids-room e) (omega (arith, e .pre)) (links-room e) (c .first .ensures), links-room e)
 
 place-requires : tie.Need-place-requires Inv-loop μ-loop
 place-requires c κs = search needs
@@ -69,11 +69,11 @@ going :
     (c : tie.After-step Inv-loop μ-loop) →
     let k = c .before .before .before .before .before .before .loop in
     let a = c .before .before .before .before .before .before .before .before .before .before .before .before .before .before .before .args in
-    Kept (a .t1 .lambda) (a .t1 .t) (a .scan .ids) (a .scan .count) (goal (a .t1) (a .t1 .lambda) (a .t1 .t) (a .scan .ids) (a .scan .count)) (k .self .links) (k .pass) (set (k .self .links) (c .before .before .place .result) (c .step .result .link)) (c .step .result .pass)
+    Kept (a .t1 .params .settings .lambda) (a .t1 .t) (a .scan .ids) (a .scan .count) (goal (a .t1) (a .t1 .params .settings .lambda) (a .t1 .t) (a .scan .ids) (a .scan .count)) (k .self .links) (k .pass) (set (k .self .links) (c .before .before .place .result) (c .step .result .link)) (c .step .result .pass)
 going c =
     let k = c .before .before .before .before .before .before .loop in
     let a = c .before .before .before .before .before .before .before .before .before .before .before .before .before .before .before .args in
-    stepped (a .t1 .lambda) (a .t1 .t) (a .scan .ids) (a .scan .count) (goal (a .t1) (a .t1 .lambda) (a .t1 .t) (a .scan .ids) (a .scan .count)) (k .self .links) (k .pass) (k .inv .1) (c .before .before .before .if2 .taken) _ _ (c .before .before .place .ensures) _ (c .step .ensures)
+    stepped (a .t1 .params .settings .lambda) (a .t1 .t) (a .scan .ids) (a .scan .count) (goal (a .t1) (a .t1 .params .settings .lambda) (a .t1 .t) (a .scan .ids) (a .scan .count)) (k .self .links) (k .pass) (k .inv .1) (c .before .before .before .if2 .taken) _ _ (c .before .before .place .ensures) _ (c .step .ensures)
 
 loop-less : tie.Need-loop-less Inv-loop μ-loop
 loop-less c = going (c .before .before) .1

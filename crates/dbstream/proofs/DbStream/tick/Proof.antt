@@ -18,7 +18,7 @@ tick-requires c κs = search needs
 told :
     (c : tie.After-tick) →
     let a = c .before .before .before .args in
-    tickTold (c .tick .result) ≡ tickedOf (record { t = a .self .t; period = a .self .«t_gap»; drift = a .self .drift }) (a .near)
+    tickTold (c .tick .result) ≡ tickedOf (record { t = a .self .t; period = a .self .params .«t_gap»; drift = a .self .drift }) (a .near)
 told c = c .tick .ensures ∙ ap (λ (q : Clock). tickedOf q (c .before .before .before .args .near)) (c .before .at .ensures)
 
 cleaned-requires : tie.Need-cleaned-requires
@@ -26,15 +26,15 @@ cleaned-requires c κs = search needs
 
 returns : tie.Need-returns
 returns c =
-    let k = c .before .before .before .before .before .before .before in
+    let k = c .before .before .before .before .before .before .before .before in
     let a = k .before .before .before .args in
-    tick-cleans (a .self) (a .near) (k .tick .result) (told k) (view (c .cleaned .result)) (c .before .before .before .before .before .if1 .taken) (c .cleaned .ensures)
+    tick-cleans (a .self) (a .near) (k .tick .result) (told k) (view (c .cleaned .result)) (c .before .before .before .before .before .before .if1 .taken) (c .cleaned .ensures)
 
 returns-2 : tie.Need-returns-2
 returns-2 c =
-    let k = c .before .before .before .before .before .before in
+    let k = c .before .before .before .before .before .before .before in
     let a = k .before .before .before .args in
-    tick-still (a .self) (a .near) (k .tick .result) (told k) (c .before .before .before .before .if1 .left)
+    tick-still (a .self) (a .near) (k .tick .result) (told k) (c .before .before .before .before .before .if1 .left)
 
 pub tick-spec : {M : Type 1} → statement M
 tick-spec = tie.close (tie.spec at-requires tick-requires cleaned-requires returns returns-2)

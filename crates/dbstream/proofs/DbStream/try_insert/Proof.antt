@@ -32,7 +32,7 @@ met c =
     record {
       coordinates = d .ensures;
       point = λ ex. point-is (e .args .x .now) (c .before .before .padded .result) (d .result) ex (omega (arith, d .ensures)) (c .before .before .padded .ensures);
-      places = sym (length-map (s .micros) _) ∙ e .good .0 .1 .1 .1 .1 .1 .1 .1 .1 .1 .1 .1 .0 .1 .0 .1;
+      places = sym (length-map (s .micros) _) ∙ e .good .0 .1 .1 .1 .1 .1 .0 .1 .0 .1;
       scanned = c .scan-for .ensures;
     }
 

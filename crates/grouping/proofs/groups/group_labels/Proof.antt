@@ -60,13 +60,13 @@ returns c =
     let a = e .args in
     let k = c .before .before .before .before .before .before .before .before .before .before .before .cut in
     let s = pool-size e in
-    let d : ℕ = min (a .params .dim) 15 in
+    let d : ℕ = min (a .params .settings .dim) 15 in
     let l = seen d (a .n) (a .pool) in
     labelled (a .params) (a .t) l (k .result) (seen-size d (a .n) (k .result) (a .pool) (k .ensures) s) (omega (arith, k .ensures)) _
     (roots-cut (a .params .eps2) _ d (a .n) (k .result) (a .pool) _ _
     (c .before .before .before .before .before .before .before .before .before .before .cut2 .ensures) (k .ensures) s
     (c .before .before .before .before .before .before .before .close-pairs .ensures .0) (c .before .before .before .before .roots .ensures))
-    _ (weights-cut d (a .n) (k .result) (a .pool) (a .params .lambda) (a .t) _ (k .ensures) s (c .before .before .before .faded-weights .ensures))
+    _ (weights-cut d (a .n) (k .result) (a .pool) (a .params .settings .lambda) (a .t) _ (k .ensures) s (c .before .before .before .faded-weights .ensures))
     _ (c .before .before .sums .ensures) _ (c .before .reaching .ensures) (a .n) _ (k .ensures) (c .before .reaching .result) refl
     (c .labels .ensures) (search needs)
 

@@ -18,7 +18,7 @@ returns c =
     let e = c .before in
     let s = e .args .self in
     let h : length (s .potential) ≡ 64 = sym (length-map (s .potential) _) ∙ e .good .0 .1 .1 .1 .1 .0 .1 .0 .1 in
-    c .potential-held .ensures ∙ sym (held-length (min (s .params .dim) 15) (min (s .«potential_count») 64) (s .potential) (omega (arith, h)))
+    c .potential-held .ensures ∙ sym (held-length (min (s .params .settings .dim) 15) (min (s .«potential_count») 64) (s .potential) (omega (arith, h)))
 
 pub potential-count-spec : {M : Type 1} → statement M
 potential-count-spec = tie.close (tie.spec potential-held-requires returns)

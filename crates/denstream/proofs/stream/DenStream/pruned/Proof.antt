@@ -31,7 +31,7 @@ returns c =
     let lp : length (s .potential) ≡ 64 = sym (length-map (s .potential) _) ∙ e .good .0 .1 .1 .1 .1 .0 .1 .0 .1 in
     let lo : length (s .outliers) ≡ 64 = sym (length-map (s .outliers) _) ∙ e .good .0 .1 .1 .1 .1 .1 .1 .0 .1 .0 .1 in
     ap (holding (view s))
-    (prunes (min (s .params .dim) 15) (s .potential) (s .«potential_count») (s .outliers) (s .«outlier_count») lp lo _
+    (prunes (min (s .params .settings .dim) 15) (s .potential) (s .«potential_count») (s .outliers) (s .«outlier_count») lp lo _
     (c .before .before .before .before .before .before .before .potential-held .ensures) _
     (c .before .before .before .before .before .before .outliers-held .ensures) (s .params) (s .t) (a .result) (b .result) (a .ensures .0) (a .ensures .1)
     (b .ensures .0) (b .ensures .1))

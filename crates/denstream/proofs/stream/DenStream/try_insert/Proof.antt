@@ -32,7 +32,7 @@ insertion-asked-requires c κs = search needs
 met :
     (c : tie.After-insertion-asked) →
     let a = c .before .before .before .before .before .before .before .before .before .args in
-    Met (view (a .self)) (a .x .now) (take (min (a .self .params .dim) 15) (c .before .before .before .before .before .padded .result)) (c .before .before .before .before .before .before .cut .result) (c .before .before .place .result) (c .insertion-asked .result)
+    Met (view (a .self)) (a .x .now) (take (min (a .self .params .settings .dim) 15) (c .before .before .before .before .before .padded .result)) (c .before .before .before .before .before .before .cut .result) (c .before .before .place .result) (c .insertion-asked .result)
 unfolding view
 met c =
     let a = c .before .before .before .before .before .before .before .before .before .args in
@@ -41,7 +41,7 @@ met c =
     let q = c .before .before .before .before .before .padded in
     record {
       coordinates = d .ensures;
-      point = λ h. point-is (a .x .now) (q .result) (min (s .params .dim) 15) (h ∙ d .ensures) (omega arith) (q .ensures);
+      point = λ h. point-is (a .x .now) (q .result) (min (s .params .settings .dim) 15) (h ∙ d .ensures) (omega arith) (q .ensures);
       placement = c .before .before .place .ensures;
       answer = c .insertion-asked .ensures ∙ ap (insertionAsked (d .result) (length (a .x .now)) (s .t)) (c .before .takes .ensures);
     }
