@@ -20,7 +20,9 @@ holds next ms ls = record { next = next .0; micros = ms; links = ls }
 
 -- with the point, by what the scan found
 abbrev pub microsBy : DbStream → Scan → List Float → List DbMicro
-microsBy s f x = map (cutTo (dimOf s)) (placedAmong f (s .params .settings .r) (s .params .settings .lambda) (s .t) (s .«next_id») x (s .count) (take (s .count) (s .micros)))
+microsBy s f x =
+    map (cutTo (dimOf s))
+    (placedAmong f (s .params .settings .r) (s .params .settings .lambda) (s .t) (s .«next_id») x (s .count) (take (s .count) (s .micros)))
 
 abbrev pub gainedBy : DbStream → Scan → List Link
 gainedBy s f = foldl (insert.gainOf (s .params .settings .lambda) (s .t)) (take (s .«link_count») (s .links)) (insert.pairsOf (take (f .count) (f .ids)))

@@ -72,7 +72,8 @@ impl DenStream {
     pub fn try_insert(self, x: &[f64]) -> Inserted
         ensures { λ r. ⌜ told r ≡ insertOf (view self) (now (x .entry)) ⌝ }
         ensures kept { λ r. ⌜ (insertionNumber (r .answer) ≢ 0 → r .stream ≡ self) ⌝ }
-        ensures said { λ r. ⌜ insertionSaid (r .answer) ≡ insertionNo (view self .params .settings .dim) (length (now (x .entry))) (view self .t) (hasPlace (view self) (now (x .entry))) ⌝ }
+        ensures said { λ r. ⌜ insertionSaid (r .answer)
+            ≡ insertionNo (view self .params .settings .dim) (length (now (x .entry))) (view self .t) (hasPlace (view self) (now (x .entry))) ⌝ }
     {
         let params = self.params;
         let dim = lists::cut(params.settings.dim, MAX_DIM);

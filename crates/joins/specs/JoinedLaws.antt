@@ -21,11 +21,13 @@ place-view (m ∷ ms) id = ap (λ (q : ℕ). cond (eqb (m .id .0) (id .0)) 0 (su
 
 pub joined-view :
     (s : State) (ls : List Link) →
-    joinedBy (map idOf (s .held .micros)) (strongOnes s) (s .params .settings .lambda) (s .t) (s .params .settings .alpha ⊗ s .params .settings .«min_weight») ls ≡ joinsOf s ls
+    joinedBy (map idOf (s .held .micros)) (strongOnes s) (s .params .settings .lambda) (s .t)
+    (s .params .settings .alpha ⊗ s .params .settings .«min_weight») ls ≡ joinsOf s ls
 unfolding joinedBy joinsOf
 joined-view s [] = refl
 joined-view s (l ∷ ls) =
-    ap (λ (ps : List (ℕ × ℕ)). cond (joinsBy ids (strongOnes s) (s .params .settings .lambda) (s .t) (s .params .settings .alpha ⊗ s .params .settings .«min_weight») l)
+    ap (λ (ps : List (ℕ × ℕ)).
+    cond (joinsBy ids (strongOnes s) (s .params .settings .lambda) (s .t) (s .params .settings .alpha ⊗ s .params .settings .«min_weight») l)
     ((placeAmong ids (l .lo), placeAmong ids (l .hi)) ∷ ps) ps) (joined-view s ls)
     ∙ ap₂ (λ (x y : ℕ). cond (getD (strongOnes s) x false && getD (strongOnes s) y false && isDense s l) ((x, y) ∷ joinsOf s ls) (joinsOf s ls))
     (place-view (s .held .micros) (l .lo)) (place-view (s .held .micros) (l .hi))

@@ -22,11 +22,12 @@ connectivityAmong ids a b mean lambda t ls =
 
 pub connectivity-view :
     (s : State) (a b : MicroId) →
-    connectivityAmong (map idOf (s .held .micros)) a b ((storedWeight (s .held .micros) a ⊕ storedWeight (s .held .micros) b) ⊘ two) (s .params .settings .lambda)
-    (s .t) (s .held .links) ≡ connectivityOf s a b
+    connectivityAmong (map idOf (s .held .micros)) a b ((storedWeight (s .held .micros) a ⊕ storedWeight (s .held .micros) b) ⊘ two)
+    (s .params .settings .lambda) (s .t) (s .held .links) ≡ connectivityOf s a b
 unfolding connectivityOf
 connectivity-view s a b =
     ap₂ (λ (p q : Bool). firstNo ((p && q && not (eqb (a .0) (b .0)), refuses 12 []) ∷ [])
-    (gives (ofLink (λ (l : Link). fadedLink (s .params .settings .lambda) (s .t) l ⊘ ((storedWeight (s .held .micros) a ⊕ storedWeight (s .held .micros) b) ⊘ two))
+    (gives (ofLink (λ (l : Link).
+    fadedLink (s .params .settings .lambda) (s .t) l ⊘ ((storedWeight (s .held .micros) a ⊕ storedWeight (s .held .micros) b) ⊘ two))
     (absent (pairOf a b .0) (pairOf a b .1) (s .t)) (s .held .links))))
     (among-held (s .held .micros) a) (among-held (s .held .micros) b)

@@ -49,7 +49,8 @@ pub extern "C" fn dbstream_run(
     numbers: &mut [u64],
 ) -> Figures
     ensures { λ f. ⌜ told f (now (numbers .exit))
-        ≡ dbstreamRun (record { dim = dim; r = r; lambda = lambda; alpha = alpha; «min_weight» = «min_weight» }) (pointsOf (now (lengths .entry)) (now (values .entry))) rounds (now (numbers .entry)) ⌝ }
+        ≡ dbstreamRun (record { dim = dim; r = r; lambda = lambda; alpha = alpha; «min_weight» = «min_weight» })
+        (pointsOf (now (lengths .entry)) (now (values .entry))) rounds (now (numbers .entry)) ⌝ }
 {
     let settings = DbSettings {
         dim,

@@ -49,7 +49,8 @@ pub extern "C" fn denstream_run(
     numbers: &mut [u64],
 ) -> Figures
     ensures { λ f. ⌜ told f (now (numbers .exit))
-        ≡ denstreamRun (record { dim = dim; eps = eps; lambda = lambda; beta = beta; mu = mu }) (pointsOf (now (lengths .entry)) (now (values .entry))) rounds (now (numbers .entry)) ⌝ }
+        ≡ denstreamRun (record { dim = dim; eps = eps; lambda = lambda; beta = beta; mu = mu })
+        (pointsOf (now (lengths .entry)) (now (values .entry))) rounds (now (numbers .entry)) ⌝ }
 {
     let settings = DenSettings {
         dim,
