@@ -16,7 +16,9 @@ use Rattle.text.specs.Laws.{nothing, both, worded}
 use Rattle.text.specs.Sizes.{Within, piece, beside, number-within, integer-within}
 use Rattle.families_lines.specs.Lines.{lineOf, linesOf, lastLine}
 
-lines-suc : (i : ℕ) (ids : List MicroId) (labels : List ℤ) (d : MicroId) (z : ℤ) → i < length ids → i < length labels → linesOf (take i ids) (take i labels) ++ lineOf (getD ids i d) (getD labels i z) ≡ linesOf (take (suc i) ids) (take (suc i) labels)
+lines-suc :
+    (i : ℕ) (ids : List MicroId) (labels : List ℤ) (d : MicroId) (z : ℤ) → i < length ids → i < length labels →
+    linesOf (take i ids) (take i labels) ++ lineOf (getD ids i d) (getD labels i z) ≡ linesOf (take (suc i) ids) (take (suc i) labels)
 unfolding linesOf
 lines-suc i [] labels d z h k = absurd (omega arith)
 lines-suc i (id ∷ ids) [] d z h k = absurd (omega arith)

@@ -5,8 +5,9 @@ use picture_text::CENTRES;
 use text::Text;
 use text::Writing;
 ghost use mathlib.Core.Path.{_≡_};
+ghost use lib.ListN.{take};
 ghost use Rattle.dbstream.specs.Stream.{view};
-ghost use Rattle.text.specs.Text.{textOf};
+ghost use Rattle.text.specs.Text.{room, textOf};
 ghost use Rattle.text.specs.Lent.{writeTold, writeOf};
 ghost use Rattle.families_picture.specs.Picture.{drawnOf, pictureText};
 
@@ -15,7 +16,7 @@ const FIGURES: usize = 3;
 
 // The stream, clustered, in words and as a picture.
 fn drawn(stream: DbStream) -> Text
-    ensures { λ r. ⌜ textOf r ≡ drawnOf (view stream) ⌝ }
+    ensures { λ r. ⌜ textOf r ≡ take room (drawnOf (view stream)) ⌝ }
 {
     let clustered = stream.cluster();
     let mut centres = [0.0; CENTRES];

@@ -7,22 +7,17 @@ use native.Mathlib.Nat.{div-lt-iff-lt-mul}
 use native.Mathlib.Omega.{arith}
 use borrow.Author.Tests.{ltb-true}
 use lib.Dec.{eqb}
-use lib.ListN.{length}
 use lib.Ieee.{Float, nan, inf, fin, up, down, ofBits, lt, neg, isNan, toUnsigned}
 use lib.Ieee.Fits.{down-pos}
 use Rattle.float.specs.Rounded.{_⊕_, nought}
 use Rattle.text.specs.Ascii.{ascii}
-use Rattle.text.specs.Sizes.{Within, piece, wider, beside, either, each-within, blanks-within, digits-within, number-within, right-within}
+use Rattle.text.specs.Sizes.{of-either, Within, piece, wider, beside, either, each-within, blanks-within, digits-within, number-within, right-within}
 use Rattle.picture_grid.specs.declared.grid.Plot.{Plot}
 use Rattle.picture_grid.specs.declared.upward.Upward.{Upward}
 use Rattle.picture_grid.specs.declared.upward.Upward.the-variants.{BeatError, Amplitude}
 use Rattle.picture_grid.specs.Figure.{half, limit, roundedOf, tenths, sized, figureOf}
 use Rattle.picture_grid.specs.Upward.{lowOf, stepOf, titleOf}
 use Rattle.picture_grid.specs.Grid.{cellText, lineText, border, sides, axis, borderText, rowText, rowsText, hiddenText, gridText}
-
-one-of : (b : Bool) {m n k : ℕ} → m < k → n < k → cond b m n < k
-one-of true h k = h
-one-of false h k = k
 
 -- what is below 100,000 is cut to a number below it
 cut-below : (x : Float) → lt x limit ≡ true → toUnsigned 64 x < 10 ^ 5
@@ -41,9 +36,15 @@ rounded-below : (x : Float) → roundedOf x < 10 ^ 5
 unfolding roundedOf
 rounded-below x = go (lt (x ⊕ half) limit) refl
   where
+    top : 99999 < 10 ^ 5
+    top = omega arith
+
+    low : (n : ℕ) → n < 10 ^ 5 → cond (lt nought (x ⊕ half)) n 0 < 10 ^ 5
+    low n h = of-either (λ (k : ℕ). k < 10 ^ 5) (lt nought (x ⊕ half)) n 0 h (omega arith)
+
     go : (b : Bool) → lt (x ⊕ half) limit ≡ b → cond (lt nought (x ⊕ half)) (cond b (toUnsigned 64 (x ⊕ half)) 99999) 0 < 10 ^ 5
-    go true e = one-of (lt nought (x ⊕ half)) (cut-below (x ⊕ half) e) (omega arith)
-    go false e = one-of (lt nought (x ⊕ half)) (omega arith) (omega arith)
+    go true e = low (toUnsigned 64 (x ⊕ half)) (cut-below (x ⊕ half) e)
+    go false e = low 99999 top
 
 -- a sign, four digits, a point and a digit
 tenths-within : (width sign n : ℕ) → width ≤ 4 → n < 10 ^ 5 → Within (tenths width sign n) 7
@@ -94,11 +95,11 @@ title-within : (up : Upward) → Within (titleOf up) 17
 title-within BeatError = piece (titleOf BeatError)
 title-within Amplitude = piece (titleOf Amplitude)
 
-pub grid-within : (up : Upward) (plot : Plot) → plot .hidden < 2 ^ 64 → Within (gridText up plot) 1650
+pub grid-within : (up : Upward) (plot : Plot) → plot .hidden < 2 ^ 64 → Within (gridText up plot) 1648
 unfolding gridText
 grid-within up plot h =
-    let n : 17 + 71 + 1368 + 71 + length axis + 38 ≤ 1650 = omega arith in
-    wider n
+    beside
     (beside
-    (beside (beside (beside (beside (title-within up) (border-within (plot .cells) 20)) (rows-within up (plot .cells))) (border-within (plot .cells) 0)) (piece axis))
-    (hidden-within (plot .hidden) h))
+    (beside (beside (beside (title-within up) (border-within (plot .cells) 20)) (rows-within up (plot .cells))) (border-within (plot .cells) 0))
+    (piece axis))
+    (hidden-within (plot .hidden) h)

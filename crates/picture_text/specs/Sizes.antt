@@ -84,10 +84,14 @@ record Found (row : Row) (m : ℕ) : Type 0 where
   mark : row .mark ≡ letterOf family
   within : length (inFamilies row m) ≤ 97
 
-family-more : (row : Row) (m : ℕ) → m < 53 → (length (inFamilies row m) ≡ 0) ⊎ Found row m → (length (inFamilies row (suc m)) ≡ 0) ⊎ Found row (suc m)
+family-more :
+    (row : Row) (m : ℕ) → m < 53 → (length (inFamilies row m) ≡ 0) ⊎ Found row m →
+    (length (inFamilies row (suc m)) ≡ 0) ⊎ Found row (suc m)
 unfolding each
 family-more row m h o =
-    let l : length (inFamilies row (suc m)) ≡ length (inFamilies row m) + length (lineIn (letterOf m) row) = length-append (inFamilies row m) (lineIn (letterOf m) row) in
+    let l : length (inFamilies row (suc m)) ≡ length (inFamilies row m) + length (lineIn (letterOf m) row) =
+    length-append (inFamilies row m) (lineIn (letterOf m) row)
+    in
     let n : m < suc m = omega arith in
     ⊎-elim
     (λ (z : length (lineIn (letterOf m) row) ≡ 0).
@@ -140,11 +144,15 @@ each-both f g (suc m) =
     )
 
 -- so n micro-clusters have no more than n lines
-lines-within : (at : ℕ → Row) (m : ℕ) → m ≤ 53 → (n : ℕ) → length (each (λ (k : ℕ). linesIn at n (letterOf k)) m) + length (linesIn at n 46) ≤ 97 * n
+lines-within :
+    (at : ℕ → Row) (m : ℕ) → m ≤ 53 → (n : ℕ) →
+    length (each (λ (k : ℕ). linesIn at n (letterOf k)) m) + length (linesIn at n 46) ≤ 97 * n
 unfolding each
 lines-within at m h zero = omega (arith, each-within (λ (k : ℕ). []) 0 (λ (i : ℕ). piece []) m .is)
 lines-within at m h (suc n) =
-    let e : length (each (λ (k : ℕ). linesIn at (suc n) (letterOf k)) m) ≡ length (each (λ (k : ℕ). linesIn at n (letterOf k)) m) + length (inFamilies (at n) m) =
+    let e :
+    length (each (λ (k : ℕ). linesIn at (suc n) (letterOf k)) m) ≡ length (each (λ (k : ℕ). linesIn at n (letterOf k)) m) + length (inFamilies (at n) m)
+    =
     each-both (λ (k : ℕ). linesIn at n (letterOf k)) (λ (k : ℕ). lineIn (letterOf k) (at n)) m
     in
     let d : length (linesIn at (suc n) 46) ≡ length (linesIn at n 46) + length (lineIn 46 (at n)) = length-append (linesIn at n 46) (lineIn 46 (at n)) in
@@ -155,7 +163,8 @@ alarm-within alarms h =
     let o : 29 ≤ 48 = omega arith in
     let t : 6 ≤ 7 = omega arith in
     either (eqb alarms 0) (wider o (piece (ascii "the drift alarm did not ring\n")))
-    (beside (beside (piece (ascii "the drift alarm rang ")) (number-within alarms h)) (either (eqb alarms 1) (wider t (piece (ascii " time\n"))) (piece (ascii " times\n"))))
+    (beside (beside (piece (ascii "the drift alarm rang ")) (number-within alarms h))
+    (either (eqb alarms 1) (wider t (piece (ascii " time\n"))) (piece (ascii " times\n"))))
 
 -- a micro-cluster is counted or marked
 module _ (plot : Plot) (place mark : ℕ) where
@@ -189,12 +198,12 @@ module _ (at : ℕ → Row) (n alarms : ℕ) (few : n ≤ 64) (h : alarms < 2 ^ 
       let w : Within (families ++ linesIn at n 46) 6208 = record { is = k } in
       beside w (alarm-within alarms h)
 
-  drawn-within : (up : Upward) → Within (gridText up (plotOf up at n)) 1650
+  drawn-within : (up : Upward) → Within (gridText up (plotOf up at n)) 1648
   drawn-within up = let k : plotOf up at n .hidden < 2 ^ 64 = omega (arith, hidden-few up at n) in grid-within up (plotOf up at n) k
 
   held-within : Within (heldText at n alarms) room
   held-within =
-      let k : 6256 + 1650 + 1650 + length legend ≤ room = omega arith in
+      let k : 6256 + 1648 + 1648 + length legend ≤ room = omega arith in
       wider k (beside (beside (beside words-within (drawn-within BeatError)) (drawn-within Amplitude)) (piece legend))
 
 -- a page is never cut

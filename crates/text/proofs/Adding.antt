@@ -14,7 +14,8 @@ use Rattle.text.specs.Text.{room, Added}
 
 -- one byte more
 pub byte-more :
-    (before : List ℕ) (at : ℕ) (piece bytes : List ℕ) (i : ℕ) → at + i < length bytes → i < length piece → take (at + i) bytes ≡ take at before ++ take i piece →
+    (before : List ℕ) (at : ℕ) (piece bytes : List ℕ) (i : ℕ) → at + i < length bytes → i < length piece →
+    take (at + i) bytes ≡ take at before ++ take i piece →
     take (at + (i + 1)) (set bytes (at + i) (getD piece i 0)) ≡ take at before ++ take (i + 1) piece
 byte-more before at piece bytes i h k e =
     let n : at + (i + 1) ≡ suc (at + i) = omega arith in
@@ -45,10 +46,11 @@ pub added :
 added text at n piece bytes l a k e =
     let h : at ≤ 16384 = omega arith in
     let m : at + n ≤ room = omega arith in
+    let q = length-append (take at (text .bytes)) (take n piece) in
     record {
       is =
           e
-          ∙ sym (take-all room (take at (text .bytes) ++ take n piece) (omega (arith, length-append (take at (text .bytes)) (take n piece), length-take at (text .bytes), length-take n piece)))
+          ∙ sym (take-all room (take at (text .bytes) ++ take n piece) (omega (arith, q, length-take at (text .bytes), length-take n piece)))
           ∙ cut-piece (take at (text .bytes)) piece at n (length-take-le at (text .bytes) (omega arith)) h k
           ∙ ap (λ (f : List ℕ). take room (f ++ piece)) (cut-take at (text .len) 16384 (text .bytes) a l);
       len = inl m;

@@ -16,6 +16,11 @@ use Rattle.text.specs.Ascii.{ascii}
 use Rattle.text.specs.Text.{each, blanks}
 use Rattle.text.specs.Decimal.{digitsIn, decimal, integer, right}
 
+-- what holds of both holds of either
+pub of-either : {A : Type 0} (P : A → Type 0) (b : Bool) (x y : A) → P x → P y → P (cond b x y)
+of-either P true x y p q = p
+of-either P false x y p q = q
+
 pub record Within (p : List ℕ) (n : ℕ) : Type 0 where
   pub is : length p ≤ n
 
@@ -30,8 +35,7 @@ pub beside : {p q : List ℕ} {a b : ℕ} → Within p a → Within q b → With
 beside {p} {q} h k = record { is = omega (arith, length-append p q, h .is, k .is) }
 
 pub either : (b : Bool) {p q : List ℕ} {n : ℕ} → Within p n → Within q n → Within (cond b p q) n
-either true h k = h
-either false h k = k
+either b {p} {q} {n} h k = of-either (λ (t : List ℕ). Within t n) b p q h k
 
 pub each-within : (f : ℕ → List ℕ) (k : ℕ) → ((i : ℕ) → Within (f i) k) → (n : ℕ) → Within (each f n) (n * k)
 unfolding each

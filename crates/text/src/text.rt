@@ -6,7 +6,7 @@ ghost use mathlib.Core.List.{[], _∷_};
 ghost use Rattle.text.specs.Text.{textOf, Added, blanks};
 ghost use Rattle.text.specs.Lent.{writeTold, writeOf};
 
-// Room for every text of the programs: `families` has 64 lines of at most 43 bytes and a last one of at most 56.
+// Room for every text of the programs: `families` has 64 lines of at most 43 bytes and a last one of at most 56, a picture at most 9,628 bytes.
 pub const ROOM: usize = 16384;
 
 // The first `len` of the bytes.

@@ -1,12 +1,14 @@
 -- `drawn` meets its contract. Assumes nothing.
-use Prim.Native.Nat.{min}
-use mathlib.Core.Path.{_∙_}
-use native.Mathlib.Omega.{arith}
+use Prim.Native.Nat.{ℕ}
+use mathlib.Core.Path.{ap, _∙_}
+use mathlib.Core.List.{List, _++_}
+use lib.ListN.{take}
 use borrow.Author.Needs.{needs}
 use Rattle.dbstream.specs.Stream.{view}
 use Rattle.readout.specs.Told.{labelsTold, statisticsTold}
-use Rattle.text.specs.Laws.{from-blank}
-use Rattle.picture_text.specs.Sizes.{page-within}
+use Rattle.text.specs.Text.{room}
+use Rattle.text.specs.Laws.{worded}
+use Rattle.families_picture.specs.Picture.{drawnOf}
 use Rattle.families_picture.proofs.Drawings.{drawing}
 use Rattle.families_picture.proofs.drawn.Statement.{statement}
 use Rattle.families_picture.proofs.drawn.Tie as tie
@@ -52,9 +54,8 @@ returns c =
     let l = c .before .before .before .before .before .labels2 in
     let d = c .before .before .before .drift in
     let n = c .before .before .«micro-count» in
-    let w = page-within (min (n .result) 64) (f .last .1 .0) (f .last .1 .1 .0) (l .last .1 .0) (d .result .alarms) (omega arith) (omega arith) in
-    from-blank (c .before .blank .ensures .0) (c .drawn .ensures) (w .is)
-    ∙ drawing (view s) (view (u .result)) (n .result) (statisticsTold (f .result) (f .last .1 .0) (f .last .1 .1 .0) (f .last .1 .1 .1 .0)) (labelsTold (l .result) (l .last .1 .0)) (d .result) (u .ensures) (n .ensures) (f .ensures) (l .ensures) (d .ensures)
+    (worded (drawing (view s) (view (u .result)) (n .result) (statisticsTold (f .result) (f .last .1 .0) (f .last .1 .1 .0) (f .last .1 .1 .1 .0)) (labelsTold (l .result) (l .last .1 .0)) (d .result) (u .ensures) (n .ensures) (f .ensures) (l .ensures) (d .ensures)) (c .drawn .ensures)) .is
+    ∙ ap (λ (t : List ℕ). take room (t ++ drawnOf (view s))) (c .before .blank .ensures .0)
 
 pub drawn-spec : {M : Type 1} → statement M
 drawn-spec =

@@ -1,9 +1,14 @@
 -- `text_of` meets its contract. Assumes nothing.
-use mathlib.Core.Path.{sym, _∙_}
+use mathlib.Core.Path.{sym, ap, _∙_}
 use native.Mathlib.Omega.{arith}
 use borrow.Author.Needs.{needs}
+use lib.ListN.{take}
+use lib.Seq.{take-all}
 use Rattle.families_session.specs.Told.{ranTold}
+use Rattle.text.specs.Text.{room}
 use Rattle.text.specs.Laws.{from-blank}
+use Rattle.families_picture.specs.Picture.{pictureText}
+use Rattle.families_picture.specs.Sizes.{never-cut}
 use Rattle.families_picture.proofs.Texts.{refused, other-dim, three}
 use Rattle.families_picture.proofs.text_of.Statement.{statement}
 use Rattle.families_picture.proofs.text_of.Tie as tie
@@ -43,7 +48,10 @@ drawn-requires c κs = search needs
 returns-3 : tie.Need-returns-3
 returns-3 c =
     let s = c .before .before .before .before .before .«session-of» in
-    c .drawn .ensures ∙ three (c .before .before .before .before .before .before .before .args .input .now) (ranTold (s .result)) (s .ensures) (c .before .before .before .before .if1 .left) (sym (c .before .before .dim .ensures) ∙ c .before .if2 .left)
+    let input = c .before .before .before .before .before .before .before .args .input .now in
+    c .drawn .ensures
+    ∙ ap (take room) (three input (ranTold (s .result)) (s .ensures) (c .before .before .before .before .if1 .left) (sym (c .before .before .dim .ensures) ∙ c .before .if2 .left))
+    ∙ take-all room (pictureText input) (never-cut input .is)
 
 pub text-of-spec : {M : Type 1} → statement M
 text-of-spec =
