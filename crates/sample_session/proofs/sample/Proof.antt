@@ -74,7 +74,7 @@ returns c =
     let p6 = both p5 (worded (ap phaseBytes (c .before .before .before .before .before .«phase-of6» .ensures)) (c .before .before .before .before .«add-phase6» .ensures)) in
     let p7 = both p6 (worded (ap phaseBytes (c .before .before .before .«phase-of7» .ensures)) (c .before .before .«add-phase7» .ensures)) in
     let p8 = both p7 (worded (ap phaseBytes (c .before .«phase-of8» .ensures)) (c .«add-phase8» .ensures)) in
-    from-blank (c .before .before .before .before .before .before .before .before .before .before .before .before .before .before .before .before .before .blank .ensures .0) p8 (omega (arith, size .is))
+    from-blank {p = sampleBytes} (c .before .before .before .before .before .before .before .before .before .before .before .before .before .before .before .before .before .blank .ensures .0) p8 (omega (arith, size .is))
 
 pub sample-spec : {M : Type 1} → statement M
 sample-spec =
