@@ -108,5 +108,6 @@ never-cut bytes =
     let d : 22 ≤ room = omega arith in
     let r : 8 + 20 + 1 ≤ room = omega arith in
     either (eqb (ranOf bytes .number) 0)
-    (either (eqb (ranOf bytes .stream .params .dim) 3) (drawn-within (ranOf bytes .stream) (n .alarms)) (wider d (piece (ascii "a picture needs dim 3\n"))))
+    (either (eqb (ranOf bytes .stream .params .settings .dim) 3) (drawn-within (ranOf bytes .stream) (n .alarms))
+    (wider d (piece (ascii "a picture needs dim 3\n"))))
     (wider r (beside (beside (piece (ascii "refused ")) (number-within (ranOf bytes .number) (n .number))) (piece (ascii "\n"))))
