@@ -8,13 +8,13 @@ use lib.Ieee.{nan}
 use borrow.Author.Tests.{eq-eqb, ne-eqb, lt-ltb, le-ltb}
 use lib.ListN.{length, take, drop, getD, set, length-append, drop-of-length-le}
 use lib.Seq.{take-suc, drop-cons, split-at, take-suc-set, length-take-le, getD-at, take-at, getD-take}
-use Rattle.buckets.specs.declared.bucket.Bucket.{Bucket}
+use Rattle.adwin_buckets.specs.declared.bucket.Bucket.{Bucket}
 use Rattle.adwin.specs.Settings.{cap}
 use Rattle.adwin.specs.Buckets.{Classed, carry, pushOf, pairOf, nextClass}
-use Rattle.buckets.specs.Bucket.{mergedOf}
+use Rattle.adwin_buckets.specs.Bucket.{mergedOf}
 use Rattle.adwin.specs.View.{classed}
 use Rattle.lists.specs.Retain.{without}
-use Rattle.lists.specs.Rest.{take-set}
+use Rattle.lists.specs.Laws.Rest.{take-set}
 use Rattle.adwin.proofs.Classes.{with-class, classed-set, classed-length, classed-getD}
 
 abbrev pub nothing : Classed

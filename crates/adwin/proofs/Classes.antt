@@ -4,12 +4,12 @@ use mathlib.Core.Path.{_≡_, refl, ap, sym}
 use mathlib.Core.List.{List, [], _∷_, _++_}
 use native.Mathlib.Omega.{arith}
 use lib.ListN.{length, take, getD, set}
-use Rattle.buckets.specs.declared.bucket.Bucket.{Bucket}
+use Rattle.adwin_buckets.specs.declared.bucket.Bucket.{Bucket}
 use Rattle.adwin.specs.Buckets.{Classed}
 use Rattle.adwin.specs.Cut.{bucketsOf}
 use Rattle.adwin.specs.View.{classed}
 use Rattle.lists.specs.Rest.{rest}
-use Rattle.lists.specs.Shift.{shift-step}
+use Rattle.lists.specs.Laws.Shift.{shift-step}
 
 abbrev pub with-class : ℕ → Bucket → Classed
 with-class c b = record { class = c; bucket = b }

@@ -6,12 +6,12 @@ use mathlib.Core.List.{List, [], _∷_}
 use native.Mathlib.Omega.{arith}
 use lib.ListN.{length, take, drop, getD}
 use lib.Ieee.{Float, le}
-use Rattle.buckets.specs.declared.bucket.Bucket.{Bucket}
+use Rattle.adwin_buckets.specs.declared.bucket.Bucket.{Bucket}
 use Rattle.adwin.specs.declared.Adwin.{Adwin}
 use Rattle.adwin.specs.declared.Verdict.{Verdict}
 use Rattle.adwin.specs.declared.Verdict.the-variants.{Quiet, Alarm}
 use Rattle.float.specs.Rounded.{_⊖_, _⊗_, nought, two}
-use Rattle.buckets.specs.Cut.{someFails}
+use Rattle.adwin_buckets.specs.Cut.{someFails}
 use Rattle.adwin.specs.Settings.{places, side}
 use Rattle.adwin.specs.Buckets.{Classed}
 use Rattle.adwin.specs.Cut.{Sums, gOf, testOf, mustDrop, varianceWithout, sumsWithout, searchOf, bucketsOf, alsoDropped, allKept}
@@ -19,7 +19,7 @@ use Rattle.adwin.specs.Window.{Window, Outcome, shrunk, outcome, quiet}
 use Rattle.adwin.specs.View.{classed, heldOf, sumsOf, view, rings, numberOf, outcomeWith}
 use Rattle.lists.specs.Retain.{without}
 use Rattle.adwin.proofs.Gap.{Closing, closing-ends, counting, with-row}
-use Rattle.adwin.specs.Inside.{oldestDropped, withHeld, withoutOldest}
+use Rattle.adwin.specs.Inside.Lists.{oldestDropped, withHeld, withoutOldest}
 
 -- ---- the oldest bucket, in the arrays and in the list
 pub oldest-is :

@@ -4,16 +4,16 @@ use mathlib.Core.Path.{_≡_, refl, ap, sym, _∙_}
 use mathlib.Core.List.{List, [], _++_}
 use native.Mathlib.Omega.{arith}
 use lib.ListN.{length, take, getD, set, length-set}
-use Rattle.buckets.specs.declared.bucket.Bucket.{Bucket}
+use Rattle.adwin_buckets.specs.declared.bucket.Bucket.{Bucket}
 use Rattle.adwin.specs.declared.Adwin.{Adwin}
 use Rattle.adwin.specs.Settings.{places}
 use Rattle.adwin.specs.Buckets.{Classed}
 use Rattle.adwin.specs.Window.{Window}
 use Rattle.adwin.specs.View.{classed, heldOf, view}
-use Rattle.adwin.specs.Inside.{withHeld}
+use Rattle.adwin.specs.Inside.Lists.{withHeld}
 use Rattle.lists.specs.Retain.{without}
 use Rattle.lists.specs.Rest.{rest}
-use Rattle.lists.specs.Shift.{shift-start, shift-end}
+use Rattle.lists.specs.Laws.Shift.{shift-start, shift-end}
 use Rattle.adwin.proofs.Classes.{classed-length, removed-both}
 
 abbrev pub rowOf : Adwin → List Classed

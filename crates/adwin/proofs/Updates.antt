@@ -9,12 +9,12 @@ use Rattle.float.specs.Rounded.{_⊕_, one}
 use Rattle.float.specs.Order.{isFinite}
 use Rattle.adwin.specs.declared.Adwin.{Adwin}
 use Rattle.adwin.specs.Settings.{interval}
-use Rattle.buckets.specs.Bucket.{singleOf}
+use Rattle.adwin_buckets.specs.Bucket.{singleOf}
 use Rattle.adwin.specs.Buckets.{pushOf}
 use Rattle.adwin.specs.Window.{Window, quiet, hasRoom, due, varianceWith, grown, shrunk, updateOf}
 use Rattle.adwin.specs.View.{heldOf, view}
-use Rattle.adwin.specs.Inside.{withHeld}
-use Rattle.adwin.specs.Cases.{not-due, is-due}
+use Rattle.adwin.specs.Inside.Lists.{withHeld}
+use Rattle.adwin.specs.Laws.Cases.{not-due, is-due}
 
 -- u with x in its sums, v as the variance, and m values since the last search
 abbrev counted : Window → Float → Float → ℕ → Window

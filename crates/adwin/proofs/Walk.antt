@@ -4,13 +4,13 @@ use mathlib.Core.Path.{_≡_, refl, ap, sym, _∙_}
 use native.Mathlib.Omega.{arith}
 use lib.ListN.{length, take, getD, set}
 use lib.Seq.{length-take-le}
-use Rattle.buckets.specs.declared.bucket.Bucket.{Bucket}
+use Rattle.adwin_buckets.specs.declared.bucket.Bucket.{Bucket}
 use Rattle.adwin.specs.declared.Adwin.{Adwin}
 use Rattle.adwin.specs.Settings.{cap, places}
 use Rattle.adwin.specs.Buckets.{nextClass, pushOf}
-use Rattle.buckets.specs.Bucket.{mergedOf}
+use Rattle.adwin_buckets.specs.Bucket.{mergedOf}
 use Rattle.adwin.specs.View.{heldOf, view}
-use Rattle.adwin.specs.Inside.{withHeld}
+use Rattle.adwin.specs.Inside.Lists.{withHeld}
 use Rattle.lists.specs.Retain.{without}
 use Rattle.adwin.proofs.Classes.{classed-length}
 use Rattle.adwin.proofs.Carries.{nothing, settled, settled-first, settled-other, settled-next, settled-pair, pairMerged, class-at, merged-both}

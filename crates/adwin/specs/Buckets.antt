@@ -3,8 +3,8 @@ use Prim.Native.Nat.{ℕ, _+_, min}
 use mathlib.Core.Bool.{cond}
 use mathlib.Core.List.{List, [], _∷_, reverse}
 use lib.Dec.{eqb, ltb}
-use Rattle.buckets.specs.declared.bucket.Bucket.{Bucket}
-use Rattle.buckets.specs.Bucket.{mergedOf}
+use Rattle.adwin_buckets.specs.declared.bucket.Bucket.{Bucket}
+use Rattle.adwin_buckets.specs.Bucket.{mergedOf}
 use Rattle.adwin.specs.Settings.{cap}
 
 pub record Classed : Type 0 where

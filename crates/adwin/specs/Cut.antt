@@ -4,9 +4,9 @@ use mathlib.Core.List.{List, [], _∷_, map}
 use lib.Ieee.{Float, lt, le}
 use Rattle.float.specs.Ln.{lnOf}
 use Rattle.float.specs.Order.{larger}
-use Rattle.buckets.specs.declared.bucket.Bucket.{Bucket}
-use Rattle.buckets.specs.declared.cut.CutTest.{CutTest}
-use Rattle.buckets.specs.Cut.{someFails}
+use Rattle.adwin_buckets.specs.declared.bucket.Bucket.{Bucket}
+use Rattle.adwin_buckets.specs.declared.cut.CutTest.{CutTest}
+use Rattle.adwin_buckets.specs.Cut.{someFails}
 use Rattle.float.specs.Rounded.{_⊕_, _⊖_, _⊗_, _⊘_, nought, one, two}
 use Rattle.adwin.specs.Settings.{side}
 use Rattle.adwin.specs.Buckets.{Classed}

@@ -1,15 +1,17 @@
 -- The window told from the list of values that it was given. Definitions only.
-use Prim.Native.Nat.{ℕ, _+_, _^_, _≤_}
+use Prim.Native.Nat.{ℕ, _+_, _^_, _≤_, _<_, min}
 use mathlib.Core.Path.{_≡_}
 use mathlib.Core.Bool.{cond, _&&_}
 use mathlib.Core.List.{List, [], _∷_, _++_}
 use lib.Dec.{eqb}
 use lib.Ieee.{Float}
+use lib.ListN.{length}
 use Rattle.float.specs.Rounded.{whole}
 use Rattle.float.specs.Order.{isFinite}
 use Rattle.adwin.specs.Buckets.{Classed}
+use Rattle.adwin.specs.Settings.{cap, limit, places}
 use Rattle.adwin.specs.Cut.{searchOf}
-use Rattle.adwin.specs.Window.{Window, hasRoom, due, grown, updateOf}
+use Rattle.adwin.specs.Window.{Window, hasRoom, due, grown, updateOf, newOf, widthOf}
 
 -- the window after a list of values
 unfoldable pub runOf : Window → List Float → Window
@@ -55,3 +57,21 @@ Below c (b ∷ l) = (b .class ≤ c) × Below c l
 abbrev pub NeverRising : List Classed → Type 0
 NeverRising [] = Unit {0}
 NeverRising (b ∷ l) = Below (b .class) l × NeverRising l
+
+-- the window w after the values xs
+pub record Told (delta : Float) (xs : List Float) (w : Window) : Type 0 where
+  -- every finite value is taken, up to 65,535
+  pub taken : w .taken ≡ min (finiteIn xs) limit
+  -- each size is 2^class, exactly, and they sum to the width
+  pub sized : Sized (w .held)
+  pub sums : w .sums .width ≡ whole (valuesIn (w .held))
+  -- "Over 6 in a class, the two oldest merge into the newest of the next."
+  pub neverRising : NeverRising (w .held)
+  pub atMostSix : (c : ℕ) → countOf c (w .held) ≤ cap
+  -- no class is above 15
+  pub classes : Below 15 (w .held)
+  -- the places for buckets are never full
+  pub neverFull : length (w .held) < places
+  -- "The width equals values taken less the sizes dropped."
+  pub dropped : Sized (droppedIn (newOf delta) xs)
+  pub width : widthOf (w .sums) + valuesIn (droppedIn (newOf delta) xs) ≡ w .taken

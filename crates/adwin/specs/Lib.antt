@@ -3,14 +3,6 @@ pub mod Buckets
 pub mod Cut
 pub mod Window
 pub mod View
-pub mod Inside
 pub mod History
-pub mod Cases
-pub mod Stacked
-pub mod Fewest
-pub mod Merging
-pub mod Dropping
-pub mod Sound
+pub mod Inside
 pub mod Laws
-pub mod NanDelta
-pub mod Readings

@@ -3,7 +3,7 @@ use Prim.Native.Nat.{ℕ}
 use mathlib.Core.Bool.{Bool, true, false}
 use mathlib.Core.List.{List, [], _∷_}
 use lib.ListN.{take}
-use Rattle.buckets.specs.declared.bucket.Bucket.{Bucket}
+use Rattle.adwin_buckets.specs.declared.bucket.Bucket.{Bucket}
 use Rattle.adwin.specs.declared.Adwin.{Adwin}
 use Rattle.adwin.specs.declared.Verdict.{Verdict}
 use Rattle.adwin.specs.declared.Verdict.the-variants.{Quiet, Alarm, Full}

@@ -8,7 +8,7 @@ use lib.ListN.{length}
 use Rattle.float.specs.Order.{isFinite}
 use Rattle.float.specs.Rounded.{_⊕_, _⊖_, _⊗_, _⊘_, nought, one}
 use Rattle.adwin.specs.Settings.{interval, limit, places, least, most}
-use Rattle.buckets.specs.Bucket.{singleOf}
+use Rattle.adwin_buckets.specs.Bucket.{singleOf}
 use Rattle.adwin.specs.Buckets.{Classed, pushOf}
 use Rattle.adwin.specs.Cut.{Sums, Searched, searchOf}
 

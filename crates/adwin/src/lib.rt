@@ -1,6 +1,6 @@
 // ADWIN: a window over a stream of numbers that tells when they changed (Bifet & Gavaldà, SDM 2007).
-pub use buckets::Bucket;
-pub use buckets::PLACES;
+pub use adwin_buckets::Bucket;
+pub use adwin_buckets::PLACES;
 ghost use mathlib.Core.Path.{_≡_};
 ghost use mathlib.Core.Bool.{_&&_, false};
 ghost use Prim.Native.Nat.{_+_, _<_, _≤_};
@@ -11,9 +11,9 @@ ghost use Rattle.adwin.specs.Buckets.{nextClass, pushOf};
 ghost use Rattle.adwin.specs.Cut.{bucketsOf, mustDrop, varianceWithout};
 ghost use Rattle.adwin.specs.Window.{clamped, meanOf, newOf, shrunk, updateOf, varianceOf, varianceWith, widthOf};
 ghost use Rattle.adwin.specs.View.{heldOf, numberOf, rings, sumsOf, told, view};
-ghost use Rattle.adwin.specs.Inside.{oldestDropped, withHeld};
-use buckets::CutTest;
-use buckets::some_fails_in;
+ghost use Rattle.adwin.specs.Inside.Lists.{oldestDropped, withHeld};
+use adwin_buckets::CutTest;
+use adwin_buckets::some_fails_in;
 
 // The window. The buckets are the first `count` of the array, oldest first, each with its class:
 // a bucket of class c has 2^c values.

@@ -6,8 +6,8 @@ use native.Mathlib.Omega.{arith}
 use lib.Dec.{lit≤}
 use lib.Ieee.{Float, lt, ofInt, ofBits}
 use borrow.Author.Tests.{ltb-true}
-use Rattle.float.specs.Rounded.{_⊕_, nought, one, whole}
-use Rattle.float.specs.Whole.{Is, whole-is, tick, lt-is}
+use Rattle.float.specs.Rounded.{_⊕_, nought, one, whole, Is}
+use Rattle.float.specs.Laws.Whole.{whole-is, tick, lt-is}
 use Rattle.model.specs.Limits.{clockLimit, clockMost}
 use Rattle.claims.specs.Clock.{Counts}
 

@@ -6,7 +6,7 @@ use mathlib.Core.Bool.{Bool, true, false, cond}
 use mathlib.Core.List.{List, [], _∷_}
 use lib.IntN.{ℤ, pos, negsuc}
 use Rattle.labels.specs.Label.{placeIn, labelsFrom, labelsOf}
-use Rattle.labels.specs.LabelLaws.{labelAt, metBy}
+use Rattle.labels.specs.Laws.Label.{labelAt, metBy}
 
 abbrev pub Counted : ℤ → Type 0
 Counted k = (k ≡ negsuc 0) ⊎ ((c : ℕ) × (k ≡ pos c))

@@ -20,7 +20,7 @@ use Rattle.model.specs.DbInsert.{idOf, isNeighbour, newborn, absorbs, absorbed,
 use Rattle.model.specs.DbInsert.{microStays, linkStays, neighboursOf, born, joined, placed, nearestFor, cleanup}
 use Rattle.model.specs.Dbstream.{dbstream, takenOf, hasPlace}
 use Rattle.model.specs.Stream.{taking}
-use Rattle.model.specs.StreamLaws.{tick-cases}
+use Rattle.model.specs.Laws.Stream.{tick-cases}
 use Rattle.claims.specs.Lists.{In, Each, Ascending}
 use Rattle.claims.specs.Clock.{Counts}
 use Rattle.claims.specs.Weighed.{Weighed}

@@ -20,7 +20,7 @@ use Rattle.model.specs.DbInsert.{leastOf, idOf, isNeighbour, newborn, absorbed,
 use Rattle.model.specs.DbInsert.{linkStays, isHeld, neighboursOf, born, joined, placed, nearestFor, cleanup}
 use Rattle.model.specs.Dbstream.{dbstream, hasPlace, fresh, takenOf}
 use Rattle.model.specs.Stream.{taking}
-use Rattle.model.specs.StreamLaws.{tick-cases}
+use Rattle.model.specs.Laws.Stream.{tick-cases}
 use Rattle.claims.specs.Lists.{In, Each, Ascending}
 use Rattle.claims.specs.DbClaims.{Older, Before, Live, LinksHeld, FromFresh, after, told}
 use Rattle.claims.proofs.Order.{and-true, each-more, each-append, ascending-snoc, in-append, each-retain, ascending-retain, retain-passes, in-retain, any-in, each-map, ascending-map, in-map, map-in}

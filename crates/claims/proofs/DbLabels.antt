@@ -8,10 +8,10 @@ use native.Mathlib.Omega.{arith}
 use lib.IntN.{ℤ, pos, negsuc}
 use lib.ListN.{length, getD, length-map}
 use Rattle.union_find.specs.Pairs.{Chain, Listed, Joined}
-use Rattle.union_find.specs.ChainLaws.{chain-map, chain-more}
+use Rattle.union_find.specs.Laws.Chain.{chain-map, chain-more}
 use Rattle.union_find.specs.Forest.{rootsOf}
-use Rattle.labels.specs.LabelLaws as label
-use Rattle.labels.specs.LabelLaws.{LabelsTell}
+use Rattle.labels.specs.Laws.Label as label
+use Rattle.labels.specs.Laws.Label.{LabelsTell}
 use Rattle.model.specs.declared.micro.MicroId.{MicroId}
 use Rattle.model.specs.declared.micro.DbMicro.{DbMicro}
 use Rattle.model.specs.declared.link.Link.{Link}

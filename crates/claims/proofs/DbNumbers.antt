@@ -15,7 +15,7 @@ use Rattle.model.specs.DbState.{Settings, Holdings, State}
 use Rattle.model.specs.DbInsert.{newborn, absorbed, microStays, born, joined, placed, nearestFor}
 use Rattle.model.specs.Dbstream.{dbstream, fresh, takenOf, hasPlace, insertOf}
 use Rattle.model.specs.Stream.{taking}
-use Rattle.model.specs.StreamLaws.{tick-cases}
+use Rattle.model.specs.Laws.Stream.{tick-cases}
 use Rattle.claims.specs.Clock.{Counts}
 use Rattle.claims.specs.DbClaims.{Live, after, told}
 use Rattle.claims.proofs.Order.{in-retain, map-in, append-in}

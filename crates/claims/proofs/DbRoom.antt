@@ -12,7 +12,7 @@ use lib.Ieee.{Float}
 use borrow.Author.Tests.{ltb-true, ltb-false, eqb-true, eqb-false, not-true}
 use Rattle.float.specs.Rounded.{_⊕_, one}
 use Rattle.lists.specs.Retain.{retain}
-use Rattle.lists.specs.Sizes.{retain-length}
+use Rattle.lists.specs.Laws.Sizes.{retain-length}
 use Rattle.model.specs.declared.micro.MicroId.{MicroId}
 use Rattle.model.specs.declared.micro.DbMicro.{DbMicro}
 use Rattle.model.specs.declared.link.Link.{Link}
@@ -23,7 +23,7 @@ use Rattle.model.specs.DbInsert.{idOf, pairsOf, gains, absent, before, sameEnds
 use Rattle.model.specs.DbInsert.{placed, nearestFor}
 use Rattle.model.specs.Dbstream.{dbstream, takenOf, hasPlace}
 use Rattle.model.specs.Stream.{taking}
-use Rattle.model.specs.StreamLaws.{tick-cases}
+use Rattle.model.specs.Laws.Stream.{tick-cases}
 use Rattle.claims.specs.Lists.{In, Each, Ascending}
 use Rattle.claims.specs.DbClaims.{Older, Before, Live, LinksHeld, FromFresh, Fits, gainUnbounded, after, told}
 use Rattle.claims.proofs.Places.{each-in}

@@ -10,8 +10,8 @@ use lib.ListN.{length}
 use lib.Ieee.{Float, le}
 use lib.Ieee.Bits.{is-true}
 use Rattle.float.specs.Rounded.{_⊗_}
-use Rattle.float.specs.Ordered.{le-trans-all}
-use Rattle.union_find.specs.ChainLaws.{chain-more}
+use Rattle.float.specs.Laws.Ordered.{le-trans-all}
+use Rattle.union_find.specs.Laws.Chain.{chain-more}
 use Rattle.model.specs.declared.micro.DbMicro.{DbMicro}
 use Rattle.model.specs.Limits.{microsMost}
 use Rattle.model.specs.DbState.{Settings, Params, State, paramsOf}

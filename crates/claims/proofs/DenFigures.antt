@@ -15,7 +15,7 @@ use Rattle.model.specs.DenState.{Settings, Holdings, State}
 use Rattle.model.specs.DenInsert.{absorbing, newborn, placed, nearestFor, potentialStays, outlierStays}
 use Rattle.model.specs.Denstream.{denstream, hasPlace, takenOf}
 use Rattle.model.specs.Stream.{taking}
-use Rattle.model.specs.StreamLaws.{tick-cases}
+use Rattle.model.specs.Laws.Stream.{tick-cases}
 use Rattle.claims.specs.Lists.{Each}
 use Rattle.claims.specs.Clock.{Counts}
 use Rattle.claims.specs.Weighed.{Weighed}

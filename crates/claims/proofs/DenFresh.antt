@@ -9,13 +9,13 @@ use lib.ListN.{length, length-set, length-append}
 use lib.Ieee.{Float}
 use borrow.Author.Tests.{ltb-true}
 use Rattle.float.specs.Rounded.{_⊕_, one}
-use Rattle.lists.specs.Sizes.{retain-length, without-length}
+use Rattle.lists.specs.Laws.Sizes.{retain-length, without-length}
 use Rattle.drift.specs.declared.Nearest.the-variants.{Nothing}
 use Rattle.model.specs.Limits.{microsMost}
 use Rattle.model.specs.Nearest.{nearestOf}
 use Rattle.model.specs.Run.{acceptedIn}
 use Rattle.model.specs.Stream.{taking}
-use Rattle.model.specs.StreamLaws.{tick-cases}
+use Rattle.model.specs.Laws.Stream.{tick-cases}
 use Rattle.model.specs.DenState.{Settings, Holdings, State}
 use Rattle.model.specs.DenInsert.{newborn, placed, nearestFor, potentialStays, outlierStays}
 use Rattle.model.specs.Denstream.{denstream, fresh, takenOf, hasPlace}

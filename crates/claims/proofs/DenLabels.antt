@@ -11,15 +11,15 @@ use lib.ListN.{length, take, getD, length-map}
 use lib.Seq.{length-take-le, getD-take}
 use Rattle.float.specs.Rounded.{nought}
 use Rattle.union_find.specs.Pairs.{Chain, Joined}
-use Rattle.union_find.specs.ChainLaws.{chain-more}
+use Rattle.union_find.specs.Laws.Chain.{chain-more}
 use Rattle.union_find.specs.Forest.{rootsOf}
-use Rattle.union_find.specs.UnionLaws.{table-at}
-use Rattle.union_find.specs.RootLaws.{RootsTell, roots-tell}
+use Rattle.union_find.specs.Laws.Union.{table-at}
+use Rattle.union_find.specs.Laws.Root.{RootsTell, roots-tell}
 use Rattle.labels.specs.Group.{Summed, done, taken, passed, sumFrom, sumsOf}
-use Rattle.labels.specs.GroupLaws.{sums-tell}
+use Rattle.labels.specs.Laws.Group.{sums-tell}
 use Rattle.labels.specs.Label as label
-use Rattle.labels.specs.LabelLaws as laws
-use Rattle.labels.specs.LabelLaws.{LabelsTell}
+use Rattle.labels.specs.Laws.Label as laws
+use Rattle.labels.specs.Laws.Label.{LabelsTell}
 use Rattle.model.specs.Limits.{microsMost}
 use Rattle.model.specs.Families.{labelsBy, countedBy}
 use Rattle.model.specs.DenState.{State}

@@ -8,15 +8,15 @@ use native.Mathlib.Omega.{arith}
 use lib.Ieee.{Float}
 use Rattle.adwin.specs.Buckets.{Classed}
 use Rattle.adwin.specs.Window.{Window, Outcome, grown, shrunk, updateOf}
-use Rattle.adwin.specs.Cases.{update-cases}
-use Rattle.adwin.specs.Laws.{not-refused}
+use Rattle.adwin.specs.Laws.Cases.{update-cases}
+use Rattle.adwin.specs.Laws.History.{not-refused}
 use Rattle.drift.specs.declared.Nearest.{Nearest}
 use Rattle.drift.specs.declared.Nearest.the-variants.{Nothing, Distance}
 use Rattle.drift.specs.Monitor.{Monitor, observeOf}
 use Rattle.model.specs.Limits.{clockMost}
 use Rattle.model.specs.Run.{acceptedIn}
 use Rattle.model.specs.Stream.{State, Kind, taking, fresh, takenOf}
-use Rattle.model.specs.StreamLaws.{tick-drift}
+use Rattle.model.specs.Laws.Stream.{tick-drift}
 use Rattle.claims.specs.Whole.{after, told}
 use Rattle.claims.proofs.Runs.{always, clock-counts, drift-heard}
 

@@ -6,18 +6,18 @@ use native.Mathlib.Omega.{arith}
 use lib.Ieee.{Float, binary64, neg, lt, eq, rem}
 use Rattle.float.specs.Rounded.{_⊖_, _⊗_, nought, one, whole}
 use Rattle.float.specs.TwoTo.{twoTo}
-use Rattle.float.specs.Whole.{whole-is}
+use Rattle.float.specs.Laws.Whole.{whole-is}
 use Rattle.model.specs.declared.answers.Opening.the-variants.{Open}
 use Rattle.model.specs.Limits.{clockMost}
 use Rattle.model.specs.Answers.{isOpen}
 use Rattle.model.specs.Questions.{lambdaInRange}
 use Rattle.model.specs.Fading.{isMultiple}
-use Rattle.model.specs.TickLaws.{multiple-of-doubles}
-use Rattle.model.specs.Periods.{bmOf}
-use Rattle.model.specs.PeriodLaws.{Period, t-gap-whole}
-use Rattle.model.specs.TpLaws.{tp-whole, divisor-some}
+use Rattle.model.specs.Laws.Tick.{multiple-of-doubles}
+use Rattle.model.specs.Periods.{bmOf, Period}
+use Rattle.model.specs.Laws.Periods.{t-gap-whole}
+use Rattle.model.specs.Laws.Tp.{tp-whole, divisor-some}
 use Rattle.model.specs.Stream.{asked}
-use Rattle.model.specs.OpenLaws.{opens-yes}
+use Rattle.model.specs.Laws.Open.{opens-yes}
 use Rattle.model.specs.DbState as db
 use Rattle.model.specs.Dbstream.{dbstream}
 use Rattle.model.specs.DenState as den

@@ -7,15 +7,15 @@ use native.Mathlib.Omega.{arith}
 use lib.Ieee.{Float}
 use Rattle.float.specs.Rounded.{whole}
 use Rattle.drift.specs.Monitor.{newOf, observeOf}
-use Rattle.drift.specs.History.{Seen, watchOf}
-use Rattle.drift.specs.Laws.{Heard, heard-from-history}
+use Rattle.drift.specs.History.{Seen, watchOf, Heard}
+use Rattle.drift.specs.Laws.History.{heard-from-history}
 use Rattle.model.specs.declared.answers.Opening.{Opening}
 use Rattle.model.specs.declared.answers.Insertion.{Insertion}
 use Rattle.model.specs.Answers.{isDone}
 use Rattle.model.specs.Outcome.{Outcome, opened}
 use Rattle.model.specs.Run.{runOf, answersOf, oneIfDone, acceptedIn}
 use Rattle.model.specs.Stream.{State, Kind, taking, fresh, openOf, tickOf, takenOf, insertBy}
-use Rattle.model.specs.StreamLaws.{tick-params, insert-cases}
+use Rattle.model.specs.Laws.Stream.{tick-params, insert-cases}
 use Rattle.claims.specs.Clock.{Counts}
 use Rattle.claims.specs.History.{seenIf, seenFrom}
 use Rattle.claims.specs.Whole.{Opens, after, told, seen}

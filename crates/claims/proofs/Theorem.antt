@@ -8,9 +8,9 @@ use lib.Ieee.{Float}
 use lib.ListN.{length}
 use Rattle.drift.specs.declared.Nearest.the-variants.{Nothing}
 use Rattle.model.specs.Limits.{microsMost}
-use Rattle.model.specs.PeriodLaws.{Period}
+use Rattle.model.specs.Periods.{Period}
 use Rattle.model.specs.Stream.{State, Kind, fresh}
-use Rattle.model.specs.StreamLaws.{refused-nothing}
+use Rattle.model.specs.Laws.Stream.{refused-nothing}
 use Rattle.model.specs.Dbstream as db
 use Rattle.model.specs.Denstream as den
 use Rattle.claims.specs.Whole.{OneRun, Calls}

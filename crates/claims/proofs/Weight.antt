@@ -13,10 +13,10 @@ use lib.Ieee.{Float, nan, inf, fin, Format, binary64, prec, emax, low, up, down,
 use lib.Ieee.Fits.{down-pos}
 use lib.Ieee.Exact.{HasValue, round-exact}
 use lib.Ieee.Order.{le-of-values}
-use Rattle.float.specs.Rounded.{_⊗_, nought, one, whole}
-use Rattle.float.specs.Opened.{mul-fin}
-use Rattle.float.specs.Whole.{Is, whole-is, mul-is}
-use Rattle.float.specs.Ordered.{Finite, is-fin, le→parts, le-trans-all, mul-mono, zero-round, zero-le-zero}
+use Rattle.float.specs.Rounded.{_⊗_, nought, one, whole, Is}
+use Rattle.float.specs.Laws.Opened.{mul-fin}
+use Rattle.float.specs.Laws.Whole.{whole-is, mul-is}
+use Rattle.float.specs.Laws.Ordered.{Finite, is-fin, le→parts, le-trans-all, mul-mono, zero-round, zero-le-zero}
 
 pub finite-between : (x w y : Float) → Finite x → Finite y → T (le x w) → T (le w y) → Finite w
 unfolding le

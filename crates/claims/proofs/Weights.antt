@@ -8,9 +8,10 @@ use lib.IntN.{pos}
 use lib.Ieee.{Float, binary64, add, le, ofInt, ofBits}
 use lib.Ieee.Fits.{add-fits}
 use Rattle.float.specs.Rounded.{_⊕_, nought, one, whole}
-use Rattle.float.specs.Whole.{whole-is, tick, le-is}
-use Rattle.float.specs.Ordered.{Finite, is-fin, le-trans-all, add-mono}
-use Rattle.feature.specs.Fade.{fadeOf, Share, fade-is-share}
+use Rattle.float.specs.Laws.Whole.{whole-is, tick, le-is}
+use Rattle.float.specs.Laws.Ordered.{Finite, is-fin, le-trans-all, add-mono}
+use Rattle.feature.specs.Fade.{fadeOf, Share}
+use Rattle.feature.specs.Laws.Fade.{fade-is-share}
 use Rattle.model.specs.Limits.{clockMost}
 use Rattle.model.specs.Fading.{fadedTo}
 use Rattle.claims.specs.Clock.{Counts}

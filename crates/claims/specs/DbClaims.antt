@@ -16,7 +16,7 @@ use Rattle.model.specs.declared.link.Link.{Link}
 use Rattle.model.specs.declared.answers.Insertion.{Insertion}
 use Rattle.model.specs.Limits.{microsMost, linksMost}
 use Rattle.model.specs.Run.{acceptedIn}
-use Rattle.model.specs.PeriodLaws.{Period}
+use Rattle.model.specs.Periods.{Period}
 use Rattle.model.specs.DbState.{Settings, State, paramsOf}
 use Rattle.model.specs.DbInsert.{idOf, pairsOf, gainIn, absent, neighboursOf, joined}
 use Rattle.model.specs.DbCluster.{isStrong, isDense}

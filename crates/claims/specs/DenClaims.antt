@@ -15,7 +15,7 @@ use Rattle.model.specs.declared.micro.Micro.{Micro}
 use Rattle.model.specs.declared.answers.Insertion.{Insertion}
 use Rattle.model.specs.Limits.{microsMost}
 use Rattle.model.specs.Run.{acceptedIn}
-use Rattle.model.specs.PeriodLaws.{Period}
+use Rattle.model.specs.Periods.{Period}
 use Rattle.model.specs.DenState.{Settings, State, paramsOf}
 use Rattle.model.specs.DenCluster.{close, fadedWeights}
 use Rattle.model.specs.Denstream.{denstream, hasPlace, clusterOf}

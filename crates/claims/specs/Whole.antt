@@ -7,8 +7,7 @@ use lib.Ieee.{Float, binary64, eq, rem}
 use Rattle.float.specs.Rounded.{nought}
 use Rattle.adwin.specs.Window.{updateOf}
 use Rattle.drift.specs.Monitor.{newOf}
-use Rattle.drift.specs.History.{Seen, watchOf}
-use Rattle.drift.specs.Laws.{Heard}
+use Rattle.drift.specs.History.{Seen, watchOf, Heard}
 use Rattle.model.specs.declared.answers.Opening.the-variants.{Open}
 use Rattle.model.specs.declared.answers.Insertion.{Insertion}
 use Rattle.model.specs.declared.answers.Insertion.the-variants.{Done}

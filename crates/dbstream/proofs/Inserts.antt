@@ -12,8 +12,8 @@ use lib.Ieee.{Float}
 use lib.ListN.{length, take, length-take}
 use Rattle.float.specs.Rounded.{_⊗_}
 use Rattle.lists.specs.Retain.{retain}
-use Rattle.lists.specs.Maps.{map-length, map-append}
-use Rattle.lists.specs.Sizes.{retain-length}
+use Rattle.lists.specs.Laws.Maps.{map-length, map-append}
+use Rattle.lists.specs.Laws.Sizes.{retain-length}
 use Rattle.feature.specs.Feature.{maxDim}
 use Rattle.model.specs.declared.micro.MicroId.{MicroId}
 use Rattle.model.specs.declared.micro.DbMicro.{DbMicro}
@@ -22,19 +22,19 @@ use Rattle.model.specs.Any.{any}
 use Rattle.model.specs.Limits.{microsMost}
 use Rattle.model.specs.Answers.{isDone}
 use Rattle.model.specs.Questions.{insertionAsked}
-use Rattle.model.specs.StreamLaws.{inserted-by}
+use Rattle.model.specs.Laws.Stream.{inserted-by}
 use Rattle.model.specs.DbState.{State}
 use Rattle.model.specs.DbInsert.{isNeighbour, neighboursOf, isAbsorbed, newborn, absorbs, absorbed, pairsOf, gainOf, born, joined, placed}
 use Rattle.model.specs.Dbstream.{dbstream, tickOf, hasPlace, insertOf}
-use Rattle.neighbours.specs.declared.scan.Scan.{Scan}
-use Rattle.micro.specs.Held.{cutTo, held}
-use Rattle.neighbours.specs.Near.{absorbNear}
-use Rattle.neighbours.specs.Placing.{hasPlaceBy}
-use Rattle.neighbours.specs.Scanned.{scanTold, scanOf}
-use Rattle.neighbours.specs.Views.{absorb-view, newborn-view}
-use Rattle.dbstream.specs.declared.DbStream.{DbStream}
-use Rattle.dbstream.specs.Stream.{view, dimOf}
-use Rattle.dbstream.specs.Placed.{placedBy, toldOf, holds, microsBy, gainedBy, heldBy}
+use Rattle.db_neighbours.specs.declared.scan.Scan.{Scan}
+use Rattle.db_micro.specs.Held.{cutTo, held}
+use Rattle.db_neighbours.specs.Near.{absorbNear}
+use Rattle.db_neighbours.specs.Placing.{hasPlaceBy}
+use Rattle.db_neighbours.specs.Scanned.{scanTold, scanOf}
+use Rattle.db_neighbours.specs.Laws.Views.{absorb-view, newborn-view}
+use Rattle.dbstream.specs.declared.stream.DbStream.{DbStream}
+use Rattle.dbstream.specs.View.{view, dimOf}
+use Rattle.dbstream.specs.Inside.Placed.{placedBy, toldOf, holds, microsBy, gainedBy, heldBy}
 
 -- a point that nobody absorbs has a place only where fewer than 64 are held
 place-free : (f : Scan) (n : ℕ) → hasPlaceBy f n ≡ true → f .count ≡ 0 → n < microsMost

@@ -11,11 +11,11 @@ use Rattle.model.specs.DbInsert.{idOf}
 use Rattle.model.specs.Stream.{labelled}
 use Rattle.model.specs.DbCluster.{isStrong, strongOnes, labelsOf}
 use Rattle.model.specs.Dbstream.{clusterOf}
-use Rattle.micro.specs.Held.{cutTo, reaches}
-use Rattle.joins.specs.Joined.{joinedBy}
-use Rattle.joins.specs.JoinedLaws.{joined-view}
-use Rattle.dbstream.specs.declared.DbStream.{DbStream}
-use Rattle.dbstream.specs.Stream.{view, dimOf}
+use Rattle.db_micro.specs.Held.{cutTo, reaches}
+use Rattle.db_joins.specs.Joined.{joinedBy}
+use Rattle.db_joins.specs.Laws.Joined.{joined-view}
+use Rattle.dbstream.specs.declared.stream.DbStream.{DbStream}
+use Rattle.dbstream.specs.View.{view, dimOf}
 
 module _
     (s : DbStream)

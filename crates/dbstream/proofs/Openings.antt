@@ -10,13 +10,13 @@ use Rattle.drift.specs.Monitor.{Monitor, newOf}
 use Rattle.model.specs.declared.answers.Opening.{Opening}
 use Rattle.model.specs.Answers.{openingNumber, isOpen}
 use Rattle.model.specs.Numbers.{dbOpeningNo}
-use Rattle.model.specs.NumberLaws.{db-opening-said}
+use Rattle.model.specs.Laws.Numbers.{db-opening-said}
 use Rattle.model.specs.Outcome.{Opened}
 use Rattle.model.specs.Periods.{tGapOf, floorOf}
-use Rattle.model.specs.OpenLaws.{uncut, opens-yes, opened-by}
+use Rattle.model.specs.Laws.Open.{uncut, opens-yes, opened-by}
 use Rattle.model.specs.DbState.{Settings, State}
 use Rattle.model.specs.Dbstream.{dbstream, asked, fresh, openOf}
-use Rattle.dbstream.specs.Stream.{withDim}
+use Rattle.dbstream.specs.View.{withDim}
 
 pub fresh-is :
     (p : Settings) (g f : Float) (m : Monitor) → g ≡ tGapOf (p .lambda) → f ≡ floorOf (p .lambda) → m ≡ newOf (p .r) →

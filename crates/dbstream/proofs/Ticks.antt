@@ -7,7 +7,7 @@ use lib.Ieee.{Float}
 use lib.ListN.{take}
 use Rattle.float.specs.Rounded.{_⊕_, one}
 use Rattle.lists.specs.Retain.{retain}
-use Rattle.lists.specs.Maps.{map-retain}
+use Rattle.lists.specs.Laws.Maps.{map-retain}
 use Rattle.drift.specs.declared.Nearest.{Nearest}
 use Rattle.drift.specs.declared.DriftMonitor.{DriftMonitor}
 use Rattle.model.specs.declared.micro.MicroId.{MicroId}
@@ -19,15 +19,15 @@ use Rattle.model.specs.Ticking.{Tick, tickTold, tickedOf}
 use Rattle.model.specs.DbState.{State}
 use Rattle.model.specs.DbInsert.{idOf, pairsOf, gainOf, microStays, linkStays}
 use Rattle.model.specs.Stream.{holding, taking, advanced, cleanedOf}
-use Rattle.model.specs.StreamLaws as laws
+use Rattle.model.specs.Laws.Stream as laws
 use Rattle.model.specs.Dbstream.{dbstream, tickOf}
-use Rattle.neighbours.specs.declared.scan.Scan.{Scan}
-use Rattle.micro.specs.Held.{cutTo, held}
-use Rattle.neighbours.specs.Placing.{placedAmong, nextAfter}
-use Rattle.link.specs.Among.{staysAmong, retain-among}
-use Rattle.dbstream.specs.declared.DbStream.{DbStream}
-use Rattle.dbstream.specs.Stream.{view, dimOf}
-use Rattle.dbstream.specs.Placed.{holds, microsBy, placedBy}
+use Rattle.db_neighbours.specs.declared.scan.Scan.{Scan}
+use Rattle.db_micro.specs.Held.{cutTo, held}
+use Rattle.db_neighbours.specs.Placing.{placedAmong, nextAfter}
+use Rattle.db_link.specs.Among.{staysAmong, retain-among}
+use Rattle.dbstream.specs.declared.stream.DbStream.{DbStream}
+use Rattle.dbstream.specs.View.{view, dimOf}
+use Rattle.dbstream.specs.Inside.Placed.{holds, microsBy, placedBy}
 
 -- ---- the cleanup
 module _ (s : DbStream) (n : ℕ) (ms : List DbMicro) (ids : List MicroId) (k : ℕ) (ls : List Link) where

@@ -1,2 +1,2 @@
-pub mod Stream
-pub mod Placed
+pub mod View
+pub mod Inside

@@ -1,9 +1,9 @@
 // A point is taken.
-use crate::DbStream;
+use crate::stream::DbStream;
+use db_gains::Pass;
+use db_neighbours::Scan;
 use feature::MAX_DIM;
-use gains::Pass;
 use model::Insertion;
-use neighbours::Scan;
 ghost use Prim.Native.Nat.{_≤_};
 ghost use mathlib.Core.Path.{_≡_};
 ghost use mathlib.Core.Logic.{_≢_};
@@ -13,8 +13,8 @@ ghost use Rattle.model.specs.Limits.{microsMost};
 ghost use Rattle.model.specs.Answers.{insertionNumber};
 ghost use Rattle.model.specs.Numbers.{insertionNo, insertionSaid};
 ghost use Rattle.model.specs.Dbstream.{tickOf, hasPlace, insertOf};
-ghost use Rattle.dbstream.specs.Stream.{view, insertedTold};
-ghost use Rattle.dbstream.specs.Placed.{placedBy, toldOf};
+ghost use Rattle.dbstream.specs.View.{view, insertedTold};
+ghost use Rattle.dbstream.specs.Inside.Placed.{placedBy, toldOf};
 
 // The answer, and the stream given back.
 pub struct Inserted {
@@ -38,7 +38,7 @@ impl DbStream {
         let n = self.count;
         let id = self.next_id;
         let micros = self.micros;
-        let p = neighbours::with_point(
+        let p = db_neighbours::with_point(
             micros,
             n,
             id,
@@ -80,7 +80,7 @@ impl DbStream {
         let n = self.count;
         let p = model::padded(x);
         let micros = self.micros;
-        let scan = neighbours::scan_for(micros, n, p, dim, self.params.settings.r);
+        let scan = db_neighbours::scan_for(micros, n, p, dim, self.params.settings.r);
         let place = scan.has_place(n);
         let answer = model::insertion_asked(dim, x.len(), self.t, place);
         let stream = self.taken(answer.is_done(), scan, p, dim);

@@ -1,5 +1,5 @@
 // A stream is opened.
-use crate::DbStream;
+use crate::stream::DbStream;
 use drift::DriftMonitor;
 use feature::Spherical;
 use model::DbMicro;
@@ -16,7 +16,7 @@ ghost use Rattle.feature.specs.Feature.{maxDim};
 ghost use Rattle.model.specs.Answers.{openingNumber};
 ghost use Rattle.model.specs.Numbers.{dbOpeningNo};
 ghost use Rattle.model.specs.Dbstream.{fresh, openOf};
-ghost use Rattle.dbstream.specs.Stream.{view, withDim, openedTold};
+ghost use Rattle.dbstream.specs.View.{view, withDim, openedTold};
 
 // The answer, and the stream; beside a refusal stands one whose settings are all 0.
 pub struct Opened {

@@ -1,10 +1,10 @@
 // The clock ticks.
-use crate::DbStream;
+use crate::stream::DbStream;
 use drift::Nearest;
 use model::Clock;
 ghost use mathlib.Core.Path.{_≡_};
 ghost use Rattle.model.specs.Dbstream.{tickOf};
-ghost use Rattle.dbstream.specs.Stream.{view};
+ghost use Rattle.dbstream.specs.View.{view};
 
 impl DbStream {
     // The drift monitor, then t grows by 1, then, where t is a multiple of t_gap, the cleanup.

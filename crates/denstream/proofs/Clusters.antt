@@ -11,9 +11,9 @@ use Rattle.model.specs.declared.micro.Micro.{Micro}
 use Rattle.model.specs.DenState.{Params}
 use Rattle.model.specs.DenCluster.{labelsOf}
 use Rattle.model.specs.Denstream.{clusterOf}
-use Rattle.pool.specs.Held.{seen}
-use Rattle.placement.specs.Pools.{potentialHeld, stateOf}
-use Rattle.grouping.specs.Group.{labelsIn}
+use Rattle.den_pool.specs.Held.{seen}
+use Rattle.den_placement.specs.Pools.{potentialHeld, stateOf}
+use Rattle.den_grouping.specs.Group.{labelsIn}
 
 pub clustered :
     (p : Params) (t : Float) (potential : List Micro) (potentialCount : ℕ) (outliers : List Micro) (outlierCount : ℕ) (labels : List ℤ) (drift : Monitor) (n : ℕ) (r : List ℤ) →

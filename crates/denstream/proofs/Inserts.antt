@@ -8,15 +8,15 @@ use lib.ListN.{length}
 use Rattle.model.specs.declared.answers.Insertion.{Insertion}
 use Rattle.model.specs.Answers.{isDone}
 use Rattle.model.specs.Questions.{insertionAsked}
-use Rattle.model.specs.InsertLaws.{taken-asks}
+use Rattle.model.specs.Laws.Insert.{taken-asks}
 use Rattle.model.specs.Stream.{taking}
-use Rattle.model.specs.StreamLaws.{inserted-by}
+use Rattle.model.specs.Laws.Stream.{inserted-by}
 use Rattle.model.specs.DenState.{State}
 use Rattle.model.specs.Denstream.{denstream, tickOf, insertOf}
-use Rattle.pool.specs.Held.{microIn}
-use Rattle.placement.specs.declared.choice.Placement.{Placement}
-use Rattle.placement.specs.Placing.{takes, pooledAt, placementOf, placementTold}
-use Rattle.placement.specs.PlacingLaws.{Placing, placing-law}
+use Rattle.den_pool.specs.Held.{microIn}
+use Rattle.den_placement.specs.declared.choice.Placement.{Placement}
+use Rattle.den_placement.specs.Placing.{takes, pooledAt, placementOf, placementTold}
+use Rattle.den_placement.specs.Laws.Placing.{Placing, placing-law}
 
 -- what is known once the point x is measured, of which y is what was placed: p is its placement, and a the answer
 pub record Met (s : State) (x y : List Float) (d : ℕ) (p : Placement) (a : Insertion) : Type 0 where

@@ -10,15 +10,15 @@ use Rattle.model.specs.declared.answers.Opening.{Opening}
 use Rattle.model.specs.declared.answers.Opening.the-variants.{Open, BetaMu}
 use Rattle.model.specs.Answers.{openingNumber, isOpen}
 use Rattle.model.specs.Numbers.{denOpeningNo}
-use Rattle.model.specs.NumberLaws.{den-opening-said}
+use Rattle.model.specs.Laws.Numbers.{den-opening-said}
 use Rattle.model.specs.Questions.{firstNo, questions}
 use Rattle.model.specs.Periods.{bmOf}
 use Rattle.model.specs.Outcome.{Opened}
 use Rattle.model.specs.Stream as stream
-use Rattle.model.specs.OpenLaws.{all-yes, none-open, all-open, uncut, opens-yes, opened-by}
+use Rattle.model.specs.Laws.Open.{all-yes, none-open, all-open, uncut, opens-yes, opened-by}
 use Rattle.model.specs.DenState.{State, Settings}
 use Rattle.model.specs.Denstream.{denstream, fresh, asked, openOf}
-use Rattle.pool.specs.Held.{withDim}
+use Rattle.den_pool.specs.Held.{withDim}
 
 module _ (g : Settings) (a : Opening) (e : a ≡ firstNo (questions (g .dim) (g .eps) (g .lambda) (g .beta) (g .mu)) Open) where
   abbrev qs : List (Bool × Opening)

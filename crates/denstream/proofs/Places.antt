@@ -8,13 +8,13 @@ use Rattle.feature.specs.Feature.{maxDim}
 use Rattle.model.specs.declared.micro.Micro.{Micro}
 use Rattle.model.specs.DenState.{Holdings, State}
 use Rattle.model.specs.Stream.{taking}
-use Rattle.pool.specs.declared.pool.Pool.{Pool}
-use Rattle.pool.specs.Held.{held, microIn}
-use Rattle.placement.specs.declared.choice.Target.the-variants.{Potential, Promotion, Outlier, Newborn}
-use Rattle.placement.specs.declared.choice.Placement.{Placement}
-use Rattle.placement.specs.Pools.{potentialHeld, outliersHeld}
-use Rattle.placement.specs.Placing.{pooledAt, Ready}
-use Rattle.placement.specs.PoolLaws as laws
+use Rattle.den_pool.specs.declared.pool.Pool.{Pool}
+use Rattle.den_pool.specs.Held.{held, microIn}
+use Rattle.den_placement.specs.declared.choice.Target.the-variants.{Potential, Promotion, Outlier, Newborn}
+use Rattle.den_placement.specs.declared.choice.Placement.{Placement}
+use Rattle.den_placement.specs.Pools.{potentialHeld, outliersHeld}
+use Rattle.den_placement.specs.Placing.{pooledAt, Ready}
+use Rattle.den_placement.specs.Laws.Pools as laws
 use Rattle.denstream.specs.declared.stream.DenStream.{DenStream}
 use Rattle.denstream.specs.View.{view}
 use Rattle.denstream.proofs.Ticks.{cleared}

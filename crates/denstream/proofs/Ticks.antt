@@ -11,9 +11,9 @@ use Rattle.model.specs.Fading.{isMultiple}
 use Rattle.model.specs.Ticking.{Tick, tickTold, tickedOf}
 use Rattle.model.specs.DenState.{State}
 use Rattle.model.specs.Stream.{advanced, cleanedOf}
-use Rattle.model.specs.StreamLaws as laws
+use Rattle.model.specs.Laws.Stream as laws
 use Rattle.model.specs.Denstream.{denstream, tickOf}
-use Rattle.placement.specs.Pools.{stateOf}
+use Rattle.den_placement.specs.Pools.{stateOf}
 use Rattle.denstream.specs.declared.stream.DenStream.{DenStream}
 use Rattle.denstream.specs.View.{view}
 

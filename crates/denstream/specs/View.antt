@@ -4,7 +4,7 @@ use Rattle.drift.specs.Monitor as monitor
 use Rattle.model.specs.DenState.{State}
 use Rattle.model.specs.Outcome as outcome
 use Rattle.model.specs.Outcome.{Outcome}
-use Rattle.placement.specs.Pools.{stateOf}
+use Rattle.den_placement.specs.Pools.{stateOf}
 use Rattle.denstream.specs.declared.stream.DenStream.{DenStream}
 use Rattle.denstream.specs.declared.opening.Opened.{Opened}
 use Rattle.denstream.specs.declared.insert.Inserted.{Inserted}

@@ -1,9 +1,9 @@
 // A point is taken.
 use crate::stream::DenStream;
+use den_placement::Placement;
+use den_placement::Target;
 use feature::MAX_DIM;
 use model::Insertion;
-use placement::Placement;
-use placement::Target;
 ghost use mathlib.Core.Path.{_≡_};
 ghost use mathlib.Core.Logic.{_≢_};
 ghost use mathlib.Core.Bool.{true, false, cond};
@@ -12,8 +12,8 @@ ghost use Rattle.model.specs.Answers.{insertionNumber};
 ghost use Rattle.model.specs.Numbers.{insertionNo, insertionSaid};
 ghost use Rattle.model.specs.Stream.{taking};
 ghost use Rattle.model.specs.Denstream.{tickOf, hasPlace, insertOf};
-ghost use Rattle.pool.specs.Held.{microIn};
-ghost use Rattle.placement.specs.Placing.{takes, pooledAt, Ready};
+ghost use Rattle.den_pool.specs.Held.{microIn};
+ghost use Rattle.den_placement.specs.Placing.{takes, pooledAt, Ready};
 ghost use Rattle.denstream.specs.View.{view, told};
 
 pub struct Inserted {
@@ -35,8 +35,8 @@ impl DenStream {
         if !done {
             return self;
         }
-        let np = placement::potential_held(self.potential_count);
-        let no = placement::outliers_held(self.potential_count, self.outlier_count);
+        let np = den_placement::potential_held(self.potential_count);
+        let no = den_placement::outliers_held(self.potential_count, self.outlier_count);
         let place = p.place;
         let m = p.micro;
         let target = p.target;
@@ -46,7 +46,7 @@ impl DenStream {
             }
             Target::Promotion => {
                 let outliers = self.outliers;
-                let rest = pool::without(outliers, no, place);
+                let rest = den_pool::without(outliers, no, place);
                 let left = rest.micros;
                 self.outliers = left;
                 self.outlier_count = rest.count;
@@ -82,7 +82,7 @@ impl DenStream {
         let np = self.potential_count;
         let outliers = self.outliers;
         let no = self.outlier_count;
-        let p = placement::place(potential, np, outliers, no, params, self.t, point);
+        let p = den_placement::place(potential, np, outliers, no, params, self.t, point);
         let target = p.target;
         let answer = model::insertion_asked(dim, x.len(), self.t, target.takes());
         let stream = self.taken(answer.is_done(), p);

@@ -1,8 +1,8 @@
 // DenStream (Cao): two pools of fading micro-clusters, potential ones and outliers.
-mod families;
+mod cleanup;
+mod cluster;
 mod insert;
 mod opening;
-mod pruning;
 mod stream;
 mod tick;
 

@@ -14,7 +14,7 @@ ghost use Rattle.model.specs.Answers.{openingNumber};
 ghost use Rattle.model.specs.Numbers.{denOpeningNo};
 ghost use Rattle.model.specs.Denstream.{openOf};
 ghost use Rattle.model.specs.Denstream as doc;
-ghost use Rattle.pool.specs.Held.{withDim};
+ghost use Rattle.den_pool.specs.Held.{withDim};
 ghost use Rattle.denstream.specs.View.{view, openedTold};
 
 // The answer; beside a refusal stands a stream of zeros.

@@ -42,6 +42,6 @@ impl DenStream {
     pub fn potential_count(self) -> usize
         ensures { λ r. ⌜ r ≡ length (view self .held .potential) ⌝ }
     {
-        placement::potential_held(self.potential_count)
+        den_placement::potential_held(self.potential_count)
     }
 }

@@ -1,15 +1,19 @@
--- The monitor told from the list of its observations. Definitions only; `Laws.antt` has what holds of them.
+-- The monitor told from the list of its observations. Definitions only; `Laws/History.antt` has what holds of them.
+use mathlib.Core.Path.{_≡_}
 use mathlib.Core.Bool.{cond}
 use mathlib.Core.List.{List, [], _∷_, _++_}
 use lib.Ieee.{Float}
+use lib.ListN.{length}
 use Rattle.float.specs.Rounded.{_⊘_}
 use Rattle.sqrt.specs.Root.{sqrtOf}
+use Rattle.adwin.specs.Window as window
 use Rattle.adwin.specs.Window.{Window, Outcome, quiet, updateOf}
+use Rattle.adwin.specs.History.{runOf, Told}
 use Rattle.drift.specs.declared.Nearest.{Nearest}
 use Rattle.drift.specs.declared.Nearest.the-variants.{Nothing, Distance}
 use Rattle.drift.specs.declared.LastAlarm.{LastAlarm}
-use Rattle.drift.specs.declared.LastAlarm.the-variants.{At}
-use Rattle.drift.specs.Monitor.{Monitor, observeOf}
+use Rattle.drift.specs.declared.LastAlarm.the-variants.{Never, At}
+use Rattle.drift.specs.Monitor.{Monitor, observeOf, delta}
 
 -- one observation: the nearest squared distance, and the clock before it grows
 pub record Seen : Type 0 where
@@ -47,3 +51,10 @@ ringsIn w radius (o ∷ l) =
 abbrev pub lastOf : LastAlarm → List Float → LastAlarm
 lastOf a [] = a
 lastOf a (t ∷ l) = lastOf (At t) l
+
+-- "alarms counts those updates", and the last alarm is the tick of the last one; the window is that of the values seen
+pub record Heard (radius : Float) (l : List Seen) (m : Monitor) : Type 0 where
+  pub alarms : m .alarms ≡ length (ringsIn (window.newOf delta) radius l)
+  pub lastAlarm : m .lastAlarm ≡ lastOf Never (ringsIn (window.newOf delta) radius l)
+  pub window : m .window ≡ runOf (window.newOf delta) (valuesSeen radius l)
+  pub told : Told delta (valuesSeen radius l) (m .window)

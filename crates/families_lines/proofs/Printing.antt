@@ -12,8 +12,8 @@ use Rattle.model.specs.declared.micro.MicroId.{MicroId}
 use Rattle.text.specs.declared.text.Text.{Text}
 use Rattle.text.specs.Ascii.{ascii}
 use Rattle.text.specs.Text.{room, Added}
-use Rattle.text.specs.Laws.{nothing, both, worded}
-use Rattle.text.specs.Sizes.{Within, piece, beside, number-within, integer-within}
+use Rattle.text.specs.Laws.Pieces.{nothing, both, worded}
+use Rattle.text.specs.Laws.Sizes.{Within, piece, beside, number-within, integer-within}
 use Rattle.families_lines.specs.Lines.{lineOf, linesOf, lastLine}
 
 lines-suc :

@@ -10,7 +10,7 @@ ghost use mathlib.Core.Path.{_≡_};
 ghost use mathlib.Core.List.{_++_};
 ghost use lib.ListN.{take};
 ghost use Rattle.text.specs.Text.{textOf, Added};
-ghost use Rattle.text.specs.Sizes.{Within};
+ghost use Rattle.text.specs.Laws.Sizes.{Within};
 ghost use Rattle.families_lines.specs.Lines.{lineOf, linesOf, lastLine};
 
 fn add_line(text: Text, id: MicroId, label: i64) -> Text

@@ -8,15 +8,15 @@ use borrow.Author.Tests.{le-leb}
 use lib.IntN.{ℤ}
 use lib.ListN.{length, take, length-take}
 use lib.Seq.{take-append-seam}
-use Rattle.lists.specs.Maps.{map-length}
-use Rattle.lists.specs.Rest.{cut-take}
-use Rattle.micro.specs.Held.{cutTo}
-use Rattle.dbstream.specs.declared.DbStream.{DbStream}
-use Rattle.dbstream.specs.Stream.{view, dimOf}
-use Rattle.labels.specs.LabelLaws.{labels-tell}
+use Rattle.lists.specs.Laws.Maps.{map-length}
+use Rattle.lists.specs.Laws.Rest.{cut-take}
+use Rattle.db_micro.specs.Held.{cutTo}
+use Rattle.dbstream.specs.declared.stream.DbStream.{DbStream}
+use Rattle.dbstream.specs.View.{view, dimOf}
+use Rattle.labels.specs.Laws.Label.{labels-tell}
 use Rattle.drift.specs.declared.DriftReport.{DriftReport}
 use Rattle.drift.specs.Monitor.{reportOf}
-use Rattle.model.specs.declared.answers.Reading.{Reading}
+use Rattle.model.specs.declared.answers.ReadOut.{ReadOut}
 use Rattle.model.specs.declared.micro.MicroId.{MicroId}
 use Rattle.model.specs.Families.{labelsBy}
 use Rattle.model.specs.ReadOut.{LabelsRead, labelsRead, written}
@@ -52,21 +52,21 @@ label-count s h =
     let k : length (strongOnes s) ≤ 64 = omega arith in
     labels-tell (length (strongOnes s)) k (joinsOf s (s .held .links)) (strongOnes s) (refl) .count ∙ e
 
-labels-read : (due lent labels : List ℤ) (answer : Reading) → length due ≤ length lent → labelsTold answer labels ≡ labelsRead due lent → take (length due) labels ≡ due
+labels-read : (due lent labels : List ℤ) (answer : ReadOut) → length due ≤ length lent → labelsTold answer labels ≡ labelsRead due lent → take (length due) labels ≡ due
 labels-read due lent labels answer h e =
     let w : LabelsRead = record { number = 0; labels = written due lent } in
     ap (λ (r : LabelsRead). take (length due) (r .labels)) (e ∙ ap (λ (b : Bool). cond b w (record { number = 10; labels = lent })) (le-leb (length due) (length lent) h))
     ∙ take-append-seam due _
 
 -- what is read out of a stream
-pub record Reads (s : State) (n : ℕ) (ids : List MicroId) (answer : Reading) (labels lent : List ℤ) (report : DriftReport) : Type 0 where
+pub record Reads (s : State) (n : ℕ) (ids : List MicroId) (answer : ReadOut) (labels lent : List ℤ) (report : DriftReport) : Type 0 where
   pub count : n ≡ length (s .held .micros)
   pub names : take (length (s .held .micros)) ids ≡ map idOf (s .held .micros)
   pub told : labelsTold answer labels ≡ labelsReadOf s lent
   pub drift : report ≡ reportOf (s .drift)
 
 pub text-is :
-    (s u : State) (n : ℕ) (ids : List MicroId) (answer : Reading) (labels lent : List ℤ) (report : DriftReport) → length ids ≡ 64 → length lent ≡ 64 → u ≡ clusterOf s →
+    (s u : State) (n : ℕ) (ids : List MicroId) (answer : ReadOut) (labels lent : List ℤ) (report : DriftReport) → length ids ≡ 64 → length lent ≡ 64 → u ≡ clusterOf s →
     Reads u n ids answer labels lent report → linesOf (take n ids) (take n labels) ++ lastLine report ≡ clusterText s
 text-is s u n ids answer labels lent report l k e r = go (subst (λ (v : State). Reads v n ids answer labels lent report) e r)
   where

@@ -7,7 +7,7 @@ use mathlib.Core.List.{List}
 use borrow.Author.Tests.{eq-eqb, ne-eqb}
 use lib.Dec.{eqb}
 use Rattle.text.specs.Refusal.{refusedLine}
-use Rattle.families_session.specs.Session.{Ran, ranOf}
+use Rattle.input_session.specs.Session.{Ran, ranOf}
 use Rattle.families_text.specs.Families.{clusterText, familiesText}
 
 module _ (bytes : List ℕ) (r : Ran) (e : r ≡ ranOf bytes) where

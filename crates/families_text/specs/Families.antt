@@ -10,7 +10,7 @@ use Rattle.model.specs.DbCluster.{labelsOf}
 use Rattle.model.specs.Dbstream.{clusterOf}
 use Rattle.text.specs.Refusal.{refusedLine}
 use Rattle.families_lines.specs.Lines.{linesOf, lastLine}
-use Rattle.families_session.specs.Session.{ranOf}
+use Rattle.input_session.specs.Session.{ranOf}
 
 -- "after cluster it prints one line per micro-cluster in list order .. then a last line"
 abbrev pub clusterText : State → List ℕ

@@ -4,7 +4,7 @@ use model::MICROS;
 use text::Text;
 use text::Writing;
 ghost use mathlib.Core.Path.{_≡_};
-ghost use Rattle.dbstream.specs.Stream.{view};
+ghost use Rattle.dbstream.specs.View.{view};
 ghost use Rattle.text.specs.Text.{textOf};
 ghost use Rattle.text.specs.Lent.{writeTold, writeOf};
 ghost use Rattle.families_text.specs.Families.{clusterText, familiesText};
@@ -16,9 +16,9 @@ fn clustered_text(stream: DbStream) -> Text
     let clustered = stream.cluster();
     let n = clustered.micro_count();
     let micros = clustered.micros;
-    let ids = micro::ids_of(micros, n);
+    let ids = db_micro::ids_of(micros, n);
     let mut labels = [-1i64; MICROS];
-    db_reading::labels(clustered, &mut labels);
+    db_readout::labels(clustered, &mut labels);
     let report = clustered.drift();
     families_lines::listing(ids, labels, n, report)
 }
@@ -27,7 +27,7 @@ fn clustered_text(stream: DbStream) -> Text
 fn text_of(input: &[u8]) -> Text
     ensures { λ r. ⌜ textOf r ≡ familiesText (now (input .entry)) ⌝ }
 {
-    let session = families_session::session_of(input);
+    let session = input_session::session_of(input);
     let number = session.number;
     if number != 0 {
         return text::refused(number);

@@ -1,5 +1,4 @@
 pub mod Distance
 pub mod Fade
 pub mod Feature
-pub mod Turns
-pub mod Within
+pub mod Laws

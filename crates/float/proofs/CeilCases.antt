@@ -13,8 +13,8 @@ use lib.Ieee.Bits.{is-true}
 use Rattle.float.specs.Rounded.{nought, whole}
 use Rattle.float.specs.Cut.{wholes}
 use Rattle.float.specs.Ceil.{ceilOf}
-use Rattle.float.specs.Whole.{whole-is}
-use Rattle.float.specs.Compare.{lt-neg, lt-values, same}
+use Rattle.float.specs.Laws.Whole.{whole-is}
+use Rattle.float.specs.Laws.Compare.{lt-neg, lt-values, same}
 
 abbrev pub big : Float
 big = fin false 1 (pos 53)

@@ -11,7 +11,7 @@ use lib.Pow.{pow-add, pow-pos, pow-mono}
 use lib.Ieee.{Float, nan, inf, fin, binary64, up, down, size, le, fits, isNan, toBits, ofBits}
 use lib.Ieee.Digits.{size-lt, size-le, size-reaches}
 use lib.Ieee.Fits.{down-pos, kept-lt, and-r}
-use Rattle.float.specs.Opened.{le-or}
+use Rattle.float.specs.Laws.Opened.{le-or}
 use Rattle.float.specs.Rounded.{one}
 use Rattle.float.specs.Order.{isFinite}
 use Rattle.float.specs.Ln.{exponentOf}

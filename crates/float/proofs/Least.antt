@@ -8,11 +8,11 @@ use lib.IntN.{pos}
 use lib.Dec.{T, lt→ltb}
 use lib.Ieee.{Float, nan, inf, fin, up, down, lt, neg, toUnsigned}
 use lib.Ieee.Fits.{down-pos}
-use Rattle.float.specs.Rounded.{nought, whole}
+use Rattle.float.specs.Rounded.{nought, whole, Is}
 use Rattle.float.specs.Cut.{cutOf, wholes}
 use Rattle.float.specs.TwoTo.{least}
-use Rattle.float.specs.Whole.{Is, whole-is}
-use Rattle.float.specs.Between.{no-less, nan-not-below, plus-not-below, inf-not-least}
+use Rattle.float.specs.Laws.Whole.{whole-is}
+use Rattle.float.specs.Laws.Between.{no-less, nan-not-below, plus-not-below, inf-not-least}
 
 -- −k can be turned into a number, which is at most 1022
 pub record Small (k : Float) : Type 0 where

@@ -1,7 +1,9 @@
 -- Document 01: "Arithmetic is binary64, each operation rounded once, in the order the Rust writes it." Definitions only.
 use Prim.Native.Nat.{ℕ}
 use lib.IntN.{pos}
+use mathlib.Core.Bool.{false}
 use lib.Ieee.{Float, binary64, add, sub, mul, div, ofInt, ofBits}
+use lib.Ieee.Exact.{HasValue}
 
 infixl 60 _⊕_
 infixl 60 _⊖_
@@ -32,3 +34,7 @@ two = ofBits binary64 0x4000_0000_0000_0000
 -- the number n as a double
 abbrev pub whole : ℕ → Float
 whole n = ofInt binary64 (pos n)
+
+-- x is n: its sign is plus, and its size is n
+abbrev pub Is : Float → ℕ → Type 0
+Is x n = HasValue x false n 1

@@ -13,7 +13,7 @@ use lib.Seq.{drop-cons, take-suc-set, drop-set-lt, append-snoc, set-getD, length
 use borrow.Author.Tests.{eq-eqb, ne-eqb}
 use Rattle.labels.proofs.Cuts.{cut-take, left-next, left-none}
 use Rattle.labels.specs.Label.{placeIn, meet, labelsFrom, labelsOf, labelsIn}
-use Rattle.labels.specs.LabelLaws.{place-le, meet-old, meet-new, metBy}
+use Rattle.labels.specs.Laws.Label.{place-le, meet-old, meet-new, metBy}
 
 -- ---- the search of a root among the first `count` of those met
 module _ (v count i : ℕ) (met : List ℕ) (h : i < count) (fits : count ≤ length met) where

@@ -14,9 +14,9 @@ use lib.Ieee.{Float, binary64, add, ofBits, nan}
 use borrow.Author.Tests.{eq-eqb, ne-eqb}
 use Rattle.labels.proofs.Cuts.{cut-take, left-next, left-none}
 use Rattle.union_find.specs.Forest.{table}
-use Rattle.union_find.specs.UnionLaws.{table-length, table-at}
+use Rattle.union_find.specs.Laws.Union.{table-length, table-at}
 use Rattle.labels.specs.Group.{sumFrom, sumsOf}
-use Rattle.labels.specs.GroupLaws.{sum-step, sum-none}
+use Rattle.labels.specs.Laws.Group.{sum-step, sum-none}
 
 -- the sums of the places passed; adding those left gives the whole
 pub record Summing (roots : List ℕ) (weights : List Float) (end : ℕ) (sums : List Float) (i : ℕ) : Type 0 where

@@ -1,4 +1,3 @@
 pub mod Label
 pub mod Group
-pub mod LabelLaws
-pub mod GroupLaws
+pub mod Laws

@@ -1,7 +1,3 @@
 pub mod Retain
 pub mod Rest
-pub mod Loops
-pub mod Shift
-pub mod Maps
-pub mod Sizes
-pub mod Counted
+pub mod Laws

@@ -9,7 +9,7 @@ use lib.Ieee.{Float}
 use lib.ListN.{length, take, drop, getD, set, replicate}
 use lib.Seq.{take-suc, drop-cons, append-snoc, set-at, length-take-le}
 use Rattle.float.specs.Rounded.{nought}
-use Rattle.lists.specs.Rest.{take-min}
+use Rattle.lists.specs.Laws.Rest.{take-min}
 use Rattle.model.specs.Point.{paddedOf}
 
 drop-replicate : (i n : ℕ) (z : Float) → drop i (replicate n z) ≡ replicate (n - i) z

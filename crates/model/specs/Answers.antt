@@ -12,8 +12,8 @@ use Rattle.model.specs.declared.answers.Insertion.{Insertion}
 use Rattle.model.specs.declared.answers.Insertion.the-variants.{Done, Shape, ClockAtLimit, NoPlace}
 use Rattle.model.specs.declared.answers.Prediction.{Prediction}
 use Rattle.model.specs.declared.answers.Prediction.the-variants as prediction
-use Rattle.model.specs.declared.answers.Reading.{Reading}
-use Rattle.model.specs.declared.answers.Reading.the-variants.{Written, TooShort}
+use Rattle.model.specs.declared.answers.ReadOut.{ReadOut}
+use Rattle.model.specs.declared.answers.ReadOut.the-variants.{Written, TooShort}
 use Rattle.model.specs.declared.answers.Connectivity.{Connectivity}
 use Rattle.model.specs.declared.answers.Connectivity.the-variants.{Density, NotLive}
 
@@ -62,9 +62,9 @@ abbrev pub predictionSaid : Prediction → Said ℤ
 predictionSaid (prediction.Label label) = gives label
 predictionSaid (prediction.Shape expected got) = refuses 7 (expected ∷ got ∷ [])
 
-abbrev pub readingNumber : Reading → ℕ
-readingNumber Written = 0
-readingNumber TooShort = 10
+abbrev pub readOutNumber : ReadOut → ℕ
+readOutNumber Written = 0
+readOutNumber TooShort = 10
 
 abbrev pub connectivitySaid : Connectivity → Said Float
 connectivitySaid (Density value) = gives value

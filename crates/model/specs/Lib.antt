@@ -6,20 +6,14 @@ pub mod Point
 pub mod Any
 pub mod Fading
 pub mod Ticking
-pub mod TickLaws
 pub mod Periods
-pub mod PeriodLaws
-pub mod TpLaws
 pub mod Nearest
 pub mod Families
 pub mod ReadOut
 pub mod Numbers
 pub mod Outcome
-pub mod InsertLaws
 pub mod Run
 pub mod Stream
-pub mod OpenLaws
-pub mod StreamLaws
 pub mod DbState
 pub mod DbInsert
 pub mod DbCluster
@@ -28,5 +22,4 @@ pub mod DenState
 pub mod DenInsert
 pub mod DenCluster
 pub mod Denstream
-pub mod NumberLaws
-pub mod Readings
+pub mod Laws

@@ -78,7 +78,7 @@ pub enum Prediction {
 }
 
 // The answer of a read-out into lent slices.
-pub enum Reading {
+pub enum ReadOut {
     Written,
     TooShort,
 }

@@ -15,7 +15,7 @@ pub use answers::Connectivity;
 pub use answers::Insertion;
 pub use answers::Opening;
 pub use answers::Prediction;
-pub use answers::Reading;
+pub use answers::ReadOut;
 pub use clock::Clock;
 pub use clock::Ticked;
 pub use fading::absorbing;

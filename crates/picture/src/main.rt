@@ -8,7 +8,7 @@ fn main() {
     let got = input::read(STDIN, &mut room);
     let n = got.count(&room);
     let mut output = [0u8; text::ROOM];
-    let written = families_picture::picture(&room[..n], &mut output);
+    let written = picture_text::picture(&room[..n], &mut output);
     let m = written.count(&output);
     io::write_all(STDOUT, &output[..m]);
 }

@@ -6,7 +6,7 @@ const NONE: i32 = -1;
 
 fn show(heading: &[u8], input: &[u8]) {
     let mut output = [0u8; text::ROOM];
-    let written = families_picture::picture(input, &mut output);
+    let written = picture_text::picture(input, &mut output);
     let n = written.count(&output);
     io::write_all(STDOUT, heading);
     io::write_all(STDOUT, b":\n");

@@ -1,4 +1,4 @@
 pub mod Figure
 pub mod Upward
 pub mod Grid
-pub mod Sizes
+pub mod Laws

@@ -1,2 +1,2 @@
-pub mod Marks
-pub mod Plotting
+pub mod Drawings
+pub mod Texts

@@ -1,5 +1,2 @@
-pub mod Row
-pub mod Words
-pub mod Plot
 pub mod Picture
-pub mod Sizes
+pub mod Laws

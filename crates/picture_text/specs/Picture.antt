@@ -1,26 +1,38 @@
--- Words and grids of n micro-clusters. Definitions only.
-use Prim.Native.Nat.{ℕ}
+-- The text that `picture` prints for an input. Definitions only.
+use Prim.Native.Nat.{ℕ, min}
 use mathlib.Core.Bool.{cond}
-use mathlib.Core.List.{List, _++_}
+use mathlib.Core.List.{List}
 use lib.Dec.{eqb}
-use lib.IntN.{ℤ}
-use lib.Ieee.{Float}
+use lib.IntN.{negsuc}
+use lib.ListN.{length, replicate}
+use Rattle.float.specs.Rounded.{nought}
+use Rattle.drift.specs.Monitor.{reportOf}
+use Rattle.model.specs.ReadOut.{Statistics}
+use Rattle.model.specs.DbState.{State}
+use Rattle.model.specs.Dbstream.{clusterOf, labelsReadOf, statisticsOf}
 use Rattle.text.specs.Ascii.{ascii}
-use Rattle.picture_grid.specs.declared.upward.Upward.the-variants.{BeatError, Amplitude}
-use Rattle.picture_grid.specs.Grid.{gridText}
-use Rattle.picture_text.specs.declared.row.Row.{Row}
-use Rattle.picture_text.specs.Row.{rowAt}
-use Rattle.picture_text.specs.Words.{alarmOf, wordsOf}
-use Rattle.picture_text.specs.Plot.{plotOf}
+use Rattle.text.specs.Refusal.{refusedLine}
+use Rattle.input_session.specs.Session.{Ran, ranOf}
+use Rattle.picture_lines.specs.Picture.{pageOf}
 
-abbrev pub legend : List ℕ
-legend = ascii "a letter is a family, a dot is in none; a mark in the frame lies outside it\n"
+-- the statistics, read into 64 places
+abbrev pub figuresOf : State → Statistics
+figuresOf s = statisticsOf s (replicate 192 nought) (replicate 64 nought) (replicate 64 nought)
 
-abbrev pub heldText : (ℕ → Row) → (n alarms : ℕ) → List ℕ
-heldText at n alarms =
-    wordsOf at n alarms ++ gridText BeatError (plotOf BeatError at n) ++ gridText Amplitude (plotOf Amplitude at n) ++ legend
+-- the families after cluster, their figures, and the alarms
+unfoldable pub drawnOf : State → List ℕ
+drawnOf s =
+    pageOf (min (length (s .held .micros)) 64) (figuresOf (clusterOf s) .centres) (figuresOf (clusterOf s) .weights)
+    (labelsReadOf (clusterOf s) (replicate 64 (negsuc 0)) .labels)
+    (reportOf (s .drift) .alarms)
 
--- without a micro-cluster there is nothing to show but the alarm
-abbrev pub pageOf : (n : ℕ) → (centres weights : List Float) → (labels : List ℤ) → (alarms : ℕ) → List ℕ
-pageOf n centres weights labels alarms =
-    cond (eqb n 0) (ascii "no reading is held\n" ++ alarmOf alarms) (heldText (rowAt centres weights labels) n alarms)
+-- three figures a reading, or no picture
+abbrev pub dimText : State → List ℕ
+dimText s = cond (eqb (s .params .settings .dim) 3) (drawnOf s) (ascii "a picture needs dim 3\n")
+
+abbrev pub ranText : Ran → List ℕ
+ranText r = cond (eqb (r .number) 0) (dimText (r .stream)) (refusedLine (r .number))
+
+unfoldable pub pictureText : List ℕ → List ℕ
+unfolding ranOf drawnOf
+pictureText bytes = ranText (ranOf bytes)

@@ -1,38 +1,55 @@
-// Families in words and as a picture, from the figures of their micro-clusters: beat error and amplitude against rate, a letter a family.
-mod plot;
-mod row;
-mod words;
-
+// What `picture` prints for the bytes of its input: the families in words and as a picture.
+use dbstream::DbStream;
 use model::MICROS;
-use picture_grid::Upward;
-pub use row::CENTRES;
+use picture_lines::CENTRES;
 use text::Text;
-use text::add;
-ghost use Prim.Native.Nat.{min};
-ghost use Rattle.text.specs.Text.{Added};
-ghost use Rattle.picture_text.specs.Picture.{pageOf};
+use text::Writing;
+ghost use mathlib.Core.Path.{_≡_};
+ghost use lib.ListN.{take};
+ghost use Rattle.dbstream.specs.View.{view};
+ghost use Rattle.text.specs.Text.{room, textOf};
+ghost use Rattle.text.specs.Lent.{writeTold, writeOf};
+ghost use Rattle.picture_text.specs.Picture.{drawnOf, pictureText};
 
-// The lines of the first n micro-clusters, what the alarm did, and the two grids.
-pub fn drawn(
-    text: Text,
-    centres: [f64; CENTRES],
-    weights: [f64; MICROS],
-    labels: [i64; MICROS],
-    n: usize,
-    alarms: u64,
-) -> Text
-    ensures { λ r. ⌜ Added text (pageOf (min n 64) centres weights labels alarms) r ⌝ }
+// The figures of a reading: rate, amplitude and beat error.
+const FIGURES: usize = 3;
+
+// The stream, clustered, in words and as a picture.
+fn drawn(stream: DbStream) -> Text
+    ensures { λ r. ⌜ textOf r ≡ take room (drawnOf (view stream)) ⌝ }
 {
-    let k = lists::cut(n, MICROS);
-    if k == 0 {
-        let none = add(text, b"no reading is held\n");
-        return words::add_alarm(none, alarms);
+    let clustered = stream.cluster();
+    let mut centres = [0.0; CENTRES];
+    let mut weights = [0.0; MICROS];
+    let mut radii = [0.0; MICROS];
+    db_readout::micro_stats(clustered, &mut centres, &mut weights, &mut radii);
+    let mut labels = [-1i64; MICROS];
+    db_readout::labels(clustered, &mut labels);
+    let report = clustered.drift();
+    let n = clustered.micro_count();
+    picture_lines::drawn(text::blank(), centres, weights, labels, n, report.alarms)
+}
+
+// A refusal is all that is printed; so is that another dim has no picture.
+fn text_of(input: &[u8]) -> Text
+    ensures { λ r. ⌜ textOf r ≡ pictureText (now (input .entry)) ⌝ }
+{
+    let session = input_session::session_of(input);
+    let number = session.number;
+    if number != 0 {
+        return text::refused(number);
     }
-    let told = words::add_words(text, centres, weights, labels, k, alarms);
-    let first = plot::add_grid(told, Upward::BeatError, centres, weights, labels, k);
-    let second = plot::add_grid(first, Upward::Amplitude, centres, weights, labels, k);
-    add(
-        second,
-        b"a letter is a family, a dot is in none; a mark in the frame lies outside it\n",
-    )
+    let stream = session.stream;
+    if stream.dim() != FIGURES {
+        return text::add(text::blank(), b"a picture needs dim 3\n");
+    }
+    drawn(stream)
+}
+
+// The text at the start of the output, if it has a place for all of it.
+pub fn picture(input: &[u8], output: &mut [u8]) -> Writing
+    ensures { λ r. ⌜ writeTold r (now (output .exit)) ≡ writeOf (pictureText (now (input .entry))) (now (output .entry)) ⌝ }
+{
+    let text = text_of(input);
+    text.write(output)
 }

@@ -13,7 +13,7 @@ use denote.Array.{each}
 use denote.Shadow.{shadow}
 use denote.Struct.Declared.{row}
 use Rattle.model.specs.Limits.{microsMost}
-use Rattle.lists.specs.Maps.{map-length, map-getD}
+use Rattle.lists.specs.Laws.Maps.{map-length, map-getD}
 use Rattle.feature.specs.declared.spherical.Spherical.{Spherical}
 use Rattle.feature.specs.Feature.{maxDim, within}
 use Rattle.feature.proofs.spherical.Spherical.{the-type}

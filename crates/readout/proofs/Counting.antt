@@ -11,7 +11,8 @@ use lib.Signed.{mag, leZ}
 use mir.Syntax.{w64}
 use mir.Val.{ofZ}
 use lib.ListN.{length, getD}
-use Rattle.lists.specs.Rest.{rest, rest-step, rest-end}
+use Rattle.lists.specs.Laws.Rest.{rest-step, rest-end}
+use Rattle.lists.specs.Rest.{rest}
 use Rattle.model.specs.Any.{any}
 use Rattle.model.specs.ReadOut.{sameFamily, clustersIn}
 

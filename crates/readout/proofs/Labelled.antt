@@ -15,7 +15,7 @@ use Rattle.readout.specs.declared.distances.Found.{Found}
 use Rattle.readout.specs.declared.distances.Found.the-variants.{At}
 use Rattle.readout.specs.Found.{nearestAmong}
 use Rattle.readout.specs.Told.{labelFound, labelAmong}
-use Rattle.readout.specs.NearestLaws.{nearest-low}
+use Rattle.readout.specs.Laws.Nearest.{nearest-low}
 use Rattle.readout.proofs.Copies.{cut-length}
 
 default-same : (l : List ℤ) (i : ℕ) (a b : ℤ) → i < length l → getD l i a ≡ getD l i b

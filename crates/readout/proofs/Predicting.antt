@@ -14,7 +14,7 @@ use Rattle.model.specs.Fading.{distanceTo}
 use Rattle.model.specs.ReadOut.{predictOf}
 use Rattle.readout.specs.Seen.{seen, distanceIn}
 use Rattle.readout.specs.Told.{labelAmong}
-use Rattle.readout.specs.LabelLaws.{label-measured}
+use Rattle.readout.specs.Laws.Label.{label-measured}
 
 -- w is dim, cut
 module _ (dim n w : ℕ) (e : w ≡ min dim maxDim) (r2 : Float) (features : List Spherical) (labels : List ℤ) (x : List Float) where

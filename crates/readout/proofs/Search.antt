@@ -6,7 +6,8 @@ use mathlib.Core.List.{List}
 use mathlib.Core.Option.{some}
 use lib.Ieee.{Float, nan, lt}
 use lib.ListN.{length, take, getD}
-use Rattle.lists.specs.Rest.{rest, rest-start, rest-step, rest-end}
+use Rattle.lists.specs.Laws.Rest.{rest-start, rest-step, rest-end}
+use Rattle.lists.specs.Rest.{rest}
 use Rattle.model.specs.Nearest.{nearAt, nearestFrom, nearestOf}
 use Rattle.readout.specs.declared.distances.Found.{Found}
 use Rattle.readout.specs.declared.distances.Found.the-variants.{Nothing, At}

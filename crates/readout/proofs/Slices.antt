@@ -10,10 +10,10 @@ use lib.Ieee.{Float}
 use native.Mathlib.Omega.{arith}
 use lib.ListN.{length, take}
 use Rattle.model.specs.Limits.{microsMost}
-use Rattle.lists.specs.Rest.{cut-take}
+use Rattle.lists.specs.Laws.Rest.{cut-take}
 use Rattle.feature.specs.Feature.{maxDim, within}
 use Rattle.feature.specs.declared.spherical.Spherical.{Spherical}
-use Rattle.model.specs.declared.answers.Reading.the-variants.{Written, TooShort}
+use Rattle.model.specs.declared.answers.ReadOut.the-variants.{Written, TooShort}
 use Rattle.model.specs.Fading.{radiusOf}
 use Rattle.model.specs.ReadOut.{Statistics, written, centresOf, labelsRead, statisticsRead}
 use Rattle.readout.specs.Seen.{seen}

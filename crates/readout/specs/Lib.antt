@@ -2,6 +2,4 @@
 pub mod Found
 pub mod Told
 pub mod Seen
-pub mod NearestLaws
-pub mod LabelLaws
-pub mod SeenLaws
+pub mod Laws

@@ -5,8 +5,8 @@ use lib.Dec.{eqb}
 use lib.IntN.{ℤ, negsuc}
 use lib.Ieee.{Float, le}
 use lib.ListN.{length, getD}
-use Rattle.model.specs.declared.answers.Reading.{Reading}
-use Rattle.model.specs.Answers.{readingNumber}
+use Rattle.model.specs.declared.answers.ReadOut.{ReadOut}
+use Rattle.model.specs.Answers.{readOutNumber}
 use Rattle.model.specs.ReadOut.{LabelsRead, Statistics}
 use Rattle.readout.specs.declared.distances.Found.{Found}
 use Rattle.readout.specs.declared.distances.Found.the-variants.{Nothing, At}
@@ -24,8 +24,8 @@ labelAmong radius2 distances labels =
     cond (eqb (length labels) (length distances)) (labelFound radius2 labels (nearestAmong distances)) (negsuc 0)
 
 -- the answer's number, and the lent slices afterwards
-abbrev pub labelsTold : Reading → List ℤ → LabelsRead
-labelsTold answer labels = record { number = readingNumber answer; labels = labels }
+abbrev pub labelsTold : ReadOut → List ℤ → LabelsRead
+labelsTold answer labels = record { number = readOutNumber answer; labels = labels }
 
-abbrev pub statisticsTold : Reading → (centres weights radii : List Float) → Statistics
-statisticsTold answer centres weights radii = record { number = readingNumber answer; centres = centres; weights = weights; radii = radii }
+abbrev pub statisticsTold : ReadOut → (centres weights radii : List Float) → Statistics
+statisticsTold answer centres weights radii = record { number = readOutNumber answer; centres = centres; weights = weights; radii = radii }

@@ -2,7 +2,7 @@
 use crate::distances::Found;
 use crate::distances::nearest;
 use model::MICROS;
-use model::Reading;
+use model::ReadOut;
 ghost use mathlib.Core.Path.{_≡_};
 ghost use lib.ListN.{take, length};
 ghost use Prim.Native.Nat.{_≤_};
@@ -45,15 +45,15 @@ fn write_labels(labels: [i64; MICROS], end: usize, out: &mut [i64])
 }
 
 // The first count labels.
-pub fn read_labels(labels: [i64; MICROS], count: usize, out: &mut [i64]) -> Reading
+pub fn read_labels(labels: [i64; MICROS], count: usize, out: &mut [i64]) -> ReadOut
     ensures { λ r. ⌜ labelsTold r (now (out .exit)) ≡ labelsRead (take count labels) (now (out .entry)) ⌝ }
 {
     let end = lists::cut(count, MICROS);
     if out.len() < end {
-        return Reading::TooShort;
+        return ReadOut::TooShort;
     }
     write_labels(labels, end, out);
-    Reading::Written
+    ReadOut::Written
 }
 
 // Whether both are one cluster's; -1 is no cluster's.

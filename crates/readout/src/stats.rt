@@ -3,7 +3,7 @@ use crate::writing::write;
 use feature::MAX_DIM;
 use feature::Spherical;
 use model::MICROS;
-use model::Reading;
+use model::ReadOut;
 ghost use mathlib.Core.Path.{_≡_};
 ghost use mathlib.Core.List.{map};
 ghost use Prim.Native.Nat.{_≤_, _*_};
@@ -51,22 +51,22 @@ pub fn statistics(
     centres: &mut [f64],
     out_weights: &mut [f64],
     radii: &mut [f64],
-) -> Reading
+) -> ReadOut
     ensures { λ r. ⌜ statisticsTold r (now (centres .exit)) (now («out_weights» .exit)) (now (radii .exit)) ≡ statisticsRead (seen dim n features) (take n weights) (now (centres .entry)) (now («out_weights» .entry)) (now (radii .entry)) ⌝ }
 {
     let end = lists::cut(n, MICROS);
     let width = lists::cut(dim, MAX_DIM);
     if centres.len() < end * width {
-        return Reading::TooShort;
+        return ReadOut::TooShort;
     }
     if out_weights.len() < end {
-        return Reading::TooShort;
+        return ReadOut::TooShort;
     }
     if radii.len() < end {
-        return Reading::TooShort;
+        return ReadOut::TooShort;
     }
     write_centres(features, end, width, centres);
     write(&weights[..end], out_weights);
     write_radii(features, end, radii);
-    Reading::Written
+    ReadOut::Written
 }

@@ -28,7 +28,7 @@ use model::LINKS;
 use model::Link;
 use model::MICROS;
 use model::MicroId;
-use model::Reading;
+use model::ReadOut;
 
 fn insert(line: &mut [u8], s: DbStream, x: &[f64]) -> DbStream {
     let r = s.try_insert(x);
@@ -43,8 +43,8 @@ fn labels(line: &mut [u8], s: DbStream, capacity: usize) {
     let count = s.label_count;
     let mut out = [0i64; MICROS];
     let n = lists::cut(capacity, MICROS);
-    let answer = db_reading::labels(s, &mut out[..n]);
-    let Reading::Written = answer else {
+    let answer = db_readout::labels(s, &mut out[..n]);
+    let ReadOut::Written = answer else {
         say(line, b"refused 10");
         return;
     };
@@ -54,7 +54,7 @@ fn labels(line: &mut [u8], s: DbStream, capacity: usize) {
 }
 
 fn predict(line: &mut [u8], s: DbStream, x: &[f64]) {
-    let answer = db_reading::try_predict(s, x);
+    let answer = db_readout::try_predict(s, x);
     say_prediction(line, answer);
 }
 
@@ -68,13 +68,13 @@ fn statistics(line: &mut [u8], s: DbStream, c: usize, w: usize, r: usize) {
     let rs = lists::cut(r, MICROS);
     let n = s.micro_count();
     let dim = s.dim();
-    let answer = db_reading::micro_stats(
+    let answer = db_readout::micro_stats(
         s,
         &mut centres[..cs],
         &mut weights[..ws],
         &mut radii[..rs],
     );
-    let Reading::Written = answer else {
+    let ReadOut::Written = answer else {
         say(line, b"refused 10");
         return;
     };
@@ -82,7 +82,7 @@ fn statistics(line: &mut [u8], s: DbStream, c: usize, w: usize, r: usize) {
 }
 
 fn connectivity(line: &mut [u8], s: DbStream, a: u64, b: u64) {
-    let answer = db_reading::connectivity(s, MicroId(a), MicroId(b));
+    let answer = db_readout::connectivity(s, MicroId(a), MicroId(b));
     say_connectivity(line, answer);
 }
 
@@ -92,7 +92,7 @@ fn drift(line: &mut [u8], s: DbStream) {
 }
 
 fn counts(line: &mut [u8], s: DbStream) {
-    say_counts(line, s.dim(), s.micro_count(), db_reading::n_clusters(s));
+    say_counts(line, s.dim(), s.micro_count(), db_readout::n_clusters(s));
 }
 
 fn put_micro(line: &mut [u8], from: usize, m: DbMicro, dim: usize) -> usize {

@@ -23,7 +23,7 @@ use denstream::Opened;
 use model::DenSettings;
 use model::MICROS;
 use model::Micro;
-use model::Reading;
+use model::ReadOut;
 
 fn insert(line: &mut [u8], s: DenStream, x: &[f64]) -> DenStream {
     let r = s.try_insert(x);
@@ -38,8 +38,8 @@ fn labels(line: &mut [u8], s: DenStream, capacity: usize) {
     let count = s.label_count;
     let mut out = [0i64; MICROS];
     let n = lists::cut(capacity, MICROS);
-    let answer = den_reading::labels(s, &mut out[..n]);
-    let Reading::Written = answer else {
+    let answer = den_readout::labels(s, &mut out[..n]);
+    let ReadOut::Written = answer else {
         say(line, b"refused 10");
         return;
     };
@@ -49,7 +49,7 @@ fn labels(line: &mut [u8], s: DenStream, capacity: usize) {
 }
 
 fn predict(line: &mut [u8], s: DenStream, x: &[f64]) {
-    let answer = den_reading::try_predict(s, x);
+    let answer = den_readout::try_predict(s, x);
     say_prediction(line, answer);
 }
 
@@ -63,13 +63,13 @@ fn statistics(line: &mut [u8], s: DenStream, c: usize, w: usize, r: usize) {
     let rs = lists::cut(r, MICROS);
     let n = s.potential_count();
     let dim = s.dim();
-    let answer = den_reading::potential_stats(
+    let answer = den_readout::potential_stats(
         s,
         &mut centres[..cs],
         &mut weights[..ws],
         &mut radii[..rs],
     );
-    let Reading::Written = answer else {
+    let ReadOut::Written = answer else {
         say(line, b"refused 10");
         return;
     };
@@ -86,7 +86,7 @@ fn counts(line: &mut [u8], s: DenStream) {
         line,
         s.dim(),
         s.potential_count(),
-        den_reading::n_clusters(s),
+        den_readout::n_clusters(s),
     );
 }
 

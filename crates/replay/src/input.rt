@@ -12,7 +12,7 @@ pub const OPERANDS: usize = 64;
 // The operation of no record: the program ends.
 pub const STOP: u64 = 0;
 
-// How reading a record ended.
+// How a record came.
 enum Status {
     Whole,
     Ended,

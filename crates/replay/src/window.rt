@@ -8,7 +8,7 @@ use crate::output::put_number;
 use crate::output::say;
 use adwin::Adwin;
 use adwin::Verdict;
-use lent_window::updated;
+use adwin_lent::updated;
 use words::double_of;
 
 // The current window, once one is open.

@@ -1,11 +1,7 @@
 pub mod Points
-pub mod PointLaws
 pub mod Whole
-pub mod Going
-pub mod Cases
+pub mod Runs
 pub mod DbTold
 pub mod DenTold
 pub mod Demand3
-pub mod Runs
-pub mod DbRuns
-pub mod DenRuns
+pub mod Laws

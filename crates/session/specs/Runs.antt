@@ -1,13 +1,9 @@
--- Demand 3 of a whole run in code, of any stream: of the stream that a session gives back which was not refused. Assumes nothing.
-use Prim.Native.Nat.{ℕ}
-use mathlib.Core.Path.{_≡_, sym, subst}
+-- Demand 3 of a whole run in code, of any stream: of the stream that a session gives back which was not refused. Definitions only.
+use mathlib.Core.Path.{_≡_}
 use mathlib.Core.List.{List}
 use lib.Ieee.{Float}
-use Rattle.model.specs.Stream.{State, Kind, asked, fresh, openOf, hasPlace, insertOf, clusterOf}
+use Rattle.model.specs.Stream.{State, Kind, hasPlace, clusterOf}
 use Rattle.claims.specs.Whole.{Opens, after}
-use Rattle.session.specs.Points.{pointsOf}
-use Rattle.session.specs.Whole.{Session, sessionOf}
-use Rattle.session.specs.Cases.{run-by}
 
 -- `Labels` and `One` are the claims of demand 3
 module _ {S P H : Type 0} (k : Kind S P H) (Labels : State P H → Type 0) (One : S → List (List Float) → Type 0) where
@@ -20,18 +16,3 @@ module _ {S P H : Type 0} (k : Kind S P H) (Labels : State P H → Type 0) (One 
     pub stream : s ≡ clusterOf k (after k (hasPlace k) p xs)
     -- of which demand 3 says what is kept and what is worked out from the list
     pub one : One p xs
-
-  -- both clauses of a session's contract, from the first
-  pub both-told :
-      ((p : S) → Opens k p → (xs : List (List Float)) → One p xs × Labels (clusterOf k (after k (hasPlace k) p xs))) →
-      (p : S) (lengths : List ℕ) (values : List Float) (lent : List ℕ) (o : Session (State P H)) →
-      o ≡ sessionOf (insertOf k) (clusterOf k) (openOf k p) (pointsOf lengths values) lent →
-      (o ≡ sessionOf (insertOf k) (clusterOf k) (openOf k p) (pointsOf lengths values) lent)
-      × (o .number ≡ 0 → RunTold p (pointsOf lengths values) (o .stream))
-  both-told demand p lengths values lent o e = (
-    e,
-    λ z.
-        let w = run-by (insertOf k) (clusterOf k) (asked k p) (fresh k p) (fresh k (k .zeros)) lengths values lent o e z in
-        let d = demand p (w .0) (pointsOf lengths values) in
-        record { opens = w .0; labels = subst Labels (sym (w .1)) (d .1); stream = w .1; one = d .0 },
-  )

@@ -9,11 +9,10 @@ ghost use lib.ListN.{length, drop};
 ghost use Rattle.model.specs.Answers.{insertionNumber};
 ghost use Rattle.model.specs.Run.{runOf, answersOf};
 ghost use Rattle.model.specs.Dbstream.{openOf, insertOf, clusterOf};
-ghost use Rattle.dbstream.specs.Stream.{view};
+ghost use Rattle.dbstream.specs.View.{view};
 ghost use Rattle.session.specs.Points.{pointsOf};
 ghost use Rattle.session.specs.Whole.{sessionOf};
-ghost use Rattle.session.specs.DbRuns.{RunTold};
-ghost use Rattle.session.specs.DbTold.{told};
+ghost use Rattle.session.specs.DbTold.{RunTold, told};
 
 // 0, or the number with which the run was refused, and the stream.
 pub struct DbSession {

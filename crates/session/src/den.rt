@@ -12,8 +12,7 @@ ghost use Rattle.model.specs.Denstream.{openOf, insertOf, clusterOf};
 ghost use Rattle.denstream.specs.View.{view};
 ghost use Rattle.session.specs.Points.{pointsOf};
 ghost use Rattle.session.specs.Whole.{sessionOf};
-ghost use Rattle.session.specs.DenRuns.{RunTold};
-ghost use Rattle.session.specs.DenTold.{told};
+ghost use Rattle.session.specs.DenTold.{RunTold, told};
 
 // 0, or the number with which the run was refused, and the stream.
 pub struct DenSession {

@@ -4,8 +4,8 @@ use Prim.Native.Nat.{ℕ, suc, _+_, _-_, _*_, _/_, _%_, _^_, _≤_, _<_}
 use native.Mathlib.Nat.{mul-comm, mul-left-comm, mul-right-comm, mul-add, add-mul, mul-le-mul-left, div-add-mod', mod-lt, div-le-of-le-mul}
 use native.Mathlib.Omega.{arith}
 use Rattle.sqrt.specs.Root.{IsRoot}
-use Rattle.sqrt.specs.Floor.{next-square, root-within}
-use Rattle.sqrt.specs.Digits.{Rooted, Half}
+use Rattle.sqrt.specs.Laws.Floor.{next-square, root-within}
+use Rattle.sqrt.specs.Inside.Digits.{Rooted, Half}
 
 module _ {s r : ℕ} (h : Half s r) where
   -- the quotient, the remainder, and the root or one more

@@ -6,8 +6,8 @@ use native.Mathlib.Nat.{mul-le-mul-left, mul-le-mul-right, pow-suc, pow-le-pow-r
 use native.Mathlib.Numerals.{add-one}
 use native.Mathlib.Omega.{arith}
 use lib.Pow.{pow-add, pow-mono}
-use Rattle.sqrt.specs.Floor.{twice-square, next-square, odd-square as square-odd}
-use Rattle.sqrt.specs.Digits.{Rooted}
+use Rattle.sqrt.specs.Laws.Floor.{twice-square, next-square, odd-square as square-odd}
+use Rattle.sqrt.specs.Inside.Digits.{Rooted}
 
 -- after i rounds: q is the root of the digits taken, rem what is left of them, w the digits to come
 pub record Part (m w q rem i : ℕ) : Type 0 where

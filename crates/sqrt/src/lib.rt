@@ -4,7 +4,7 @@ ghost use Prim.Native.Nat.{_+_, _*_, _^_, _<_, _≤_};
 ghost use mathlib.Core.Bool.{false};
 ghost use lib.Ieee.{binary64, round};
 ghost use Rattle.sqrt.specs.Root.{IsRoot, sticky, sqrtOf};
-ghost use Rattle.sqrt.specs.Digits.{Rooted, Half};
+ghost use Rattle.sqrt.specs.Inside.Digits.{Rooted, Half};
 
 // 2^52: a normal number's leading digit, and in a bit pattern one step of the exponent.
 const LEAD: u64 = 0x10_0000_0000_0000;

@@ -8,7 +8,7 @@ use native.Mathlib.Numerals.{add-one}
 use native.Mathlib.Omega.{arith}
 use lib.ListN.{length, take, getD, set, length-append, length-take}
 use lib.Seq.{take-all, take-suc, take-suc-set, take-length, take-take, take-append-add, length-take-le}
-use Rattle.lists.specs.Rest.{cut-take}
+use Rattle.lists.specs.Laws.Rest.{cut-take}
 use Rattle.text.specs.declared.text.Text.{Text}
 use Rattle.text.specs.Text.{room, Added}
 

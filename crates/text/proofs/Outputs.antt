@@ -9,7 +9,7 @@ use borrow.Author.Tests.{le-leb, lt-leb}
 use lib.ListN.{length, take, drop, getD, set, length-take}
 use lib.Seq.{paste, paste-suc, length-paste, take-length, length-take-le}
 use Rattle.io.specs.Counts.{Counts}
-use Rattle.lists.specs.Rest.{cut-take}
+use Rattle.lists.specs.Laws.Rest.{cut-take}
 use Rattle.model.specs.Answers.{gives, refuses}
 use Rattle.model.specs.ReadOut.{written}
 use Rattle.text.specs.declared.text.Text.{Text}

@@ -4,4 +4,3 @@ pub mod Decimal
 pub mod Refusal
 pub mod Lent
 pub mod Laws
-pub mod Sizes

@@ -6,8 +6,9 @@ use mathlib.Core.List.{List}
 use native.Mathlib.Omega.{arith}
 use Rattle.union_find.specs.declared.forest.UnionFind.{UnionFind}
 use Rattle.union_find.specs.Forest.{up, halve, findFrom, findOf, linkOf, unionOf}
-use Rattle.union_find.specs.WellFormed.{WellFormed, Ranked, halve-well}
-use Rattle.union_find.specs.FindLaws.{find-law, find-stop, find-on, Made, made-few, made-next, steps-less}
+use Rattle.union_find.specs.Laws.WellFormed.{halve-well}
+use Rattle.union_find.specs.Inside.WellFormed.{WellFormed, Ranked}
+use Rattle.union_find.specs.Laws.Find.{find-law, find-stop, find-on, Made, made-few, made-next, steps-less}
 
 -- after some halving steps from p₀ and x the parents are p, and the find stands at `at`
 pub record Turn (p₀ : List ℕ) (x : ℕ) (p : List ℕ) (at : ℕ) : Type 0 where

@@ -11,10 +11,11 @@ use lib.Seq.{getD-set-same, getD-set-other, ext-getD}
 use Rattle.union_find.specs.declared.forest.UnionFind.{UnionFind}
 use Rattle.union_find.specs.Pairs.{pairsOf}
 use Rattle.union_find.specs.Forest.{table, newOf, findOf, joinOf, joinAll, rootsOf}
-use Rattle.union_find.specs.WellFormed.{Ranked, Sound, rootOf}
-use Rattle.union_find.specs.FindLaws.{Finds, find-law}
-use Rattle.union_find.specs.UnionLaws.{union-law, table-length, table-at}
-use Rattle.union_find.specs.RootLaws.{join-in, join-out, forest-tells}
+use Rattle.union_find.specs.Laws.WellFormed.{rootOf}
+use Rattle.union_find.specs.Inside.WellFormed.{Ranked, Sound}
+use Rattle.union_find.specs.Laws.Find.{Finds, find-law}
+use Rattle.union_find.specs.Laws.Union.{union-law, table-length, table-at}
+use Rattle.union_find.specs.Laws.Root.{join-in, join-out, forest-tells}
 
 pub join-sound : (n : ℕ) (u : UnionFind) (e : ℕ × ℕ) → n ≤ 64 → Sound u → Sound (joinOf n u e)
 join-sound n u e hn s =

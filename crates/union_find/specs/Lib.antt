@@ -1,9 +1,4 @@
 pub mod Pairs
 pub mod Forest
-pub mod ChainLaws
-pub mod Merging
-pub mod Sum
-pub mod WellFormed
-pub mod FindLaws
-pub mod UnionLaws
-pub mod RootLaws
+pub mod Inside
+pub mod Laws

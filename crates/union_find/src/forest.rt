@@ -5,7 +5,7 @@ ghost use mathlib.Core.Path.{_≡_};
 ghost use Prim.Native.Nat.{_<_, _≤_};
 ghost use Rattle.union_find.specs.Pairs.{pairsOf};
 ghost use Rattle.union_find.specs.Forest.{newOf, findOf, linkOf, unionOf, joinOf, joinAll, rootsOf};
-ghost use Rattle.union_find.specs.WellFormed.{Ranked, Sound};
+ghost use Rattle.union_find.specs.Inside.WellFormed.{Ranked, Sound};
 
 struct UnionFind {
     parent: [usize; PLACES],

@@ -1,5 +1,4 @@
 pub mod Told
 pub mod Streams
-pub mod StreamLaws
 pub mod Window
-pub mod WindowLaws
+pub mod Laws

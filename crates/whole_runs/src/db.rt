@@ -4,7 +4,7 @@ use dbstream::DbStream;
 use model::DbSettings;
 ghost use mathlib.Core.Path.{_≡_};
 ghost use Rattle.model.specs.Dbstream.{clusterOf};
-ghost use Rattle.dbstream.specs.Stream.{view};
+ghost use Rattle.dbstream.specs.View.{view};
 ghost use Rattle.session.specs.Points.{pointsOf};
 ghost use Rattle.whole_runs.specs.Told.{iterate, told};
 ghost use Rattle.whole_runs.specs.Streams.{dbstreamFigures, dbstreamRun};
@@ -28,7 +28,7 @@ fn figures_of(number: u64, stream: DbStream) -> Figures
     Figures {
         number,
         micros: stream.micro_count(),
-        families: db_reading::n_clusters(stream),
+        families: db_readout::n_clusters(stream),
         alarms: report.alarms,
         distance: report.distance,
         window: report.window,

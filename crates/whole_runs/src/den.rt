@@ -28,7 +28,7 @@ fn figures_of(number: u64, stream: DenStream) -> Figures
     Figures {
         number,
         micros: stream.potential_count(),
-        families: den_reading::n_clusters(stream),
+        families: den_readout::n_clusters(stream),
         alarms: report.alarms,
         distance: report.distance,
         window: report.window,

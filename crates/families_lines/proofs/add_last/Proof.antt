@@ -1,6 +1,6 @@
 -- `add_last` meets its contract. Assumes nothing.
 use native.Mathlib.Omega.{arith}
-use Rattle.text.specs.Laws.{both}
+use Rattle.text.specs.Laws.Pieces.{both}
 use Rattle.families_lines.proofs.Printing.{last-within}
 use borrow.Author.Needs.{needs}
 use borrow.Author.Needs.{needs}

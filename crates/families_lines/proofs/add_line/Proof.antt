@@ -4,7 +4,7 @@ use native.Mathlib.Omega.{arith}
 use lib.IntN.{ℤ}
 use mir.Facts.{toZ-ofZ}
 use Rattle.text.specs.Text.{Added}
-use Rattle.text.specs.Laws.{both}
+use Rattle.text.specs.Laws.Pieces.{both}
 use Rattle.families_lines.specs.Lines.{lineOf}
 use Rattle.families_lines.proofs.Printing.{line-within}
 use borrow.Author.Needs.{needs}

@@ -3,10 +3,10 @@ use mathlib.Core.Path.{ap₂, _∙_}
 use mathlib.Core.List.{List, _++_}
 use native.Mathlib.Omega.{arith}
 use lib.IntN.{ℤ}
-use Rattle.lists.specs.Rest.{cut-take}
+use Rattle.lists.specs.Laws.Rest.{cut-take}
 use Rattle.model.specs.declared.micro.MicroId.{MicroId}
-use Rattle.text.specs.Laws.{both, from-blank}
-use Rattle.text.specs.Sizes.{beside}
+use Rattle.text.specs.Laws.Pieces.{both, from-blank}
+use Rattle.text.specs.Laws.Sizes.{beside}
 use Rattle.families_lines.specs.Lines.{linesOf, lastLine}
 use borrow.Author.Needs.{needs}
 use Rattle.families_lines.proofs.listing.Statement.{statement}

@@ -2,7 +2,7 @@
 use mathlib.Core.Path.{_≡_, refl, sym, _∙_}
 use lib.IntN.{negsuc}
 use lib.ListN.{length, replicate, length-map}
-use Rattle.dbstream.specs.Stream.{view}
+use Rattle.dbstream.specs.View.{view}
 use Rattle.families_text.proofs.Clustered.{ids-are, text-is}
 use borrow.Author.Needs.{needs}
 use Rattle.families_text.proofs.clustered_text.Statement.{statement}

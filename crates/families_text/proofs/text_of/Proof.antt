@@ -1,7 +1,7 @@
 -- `text_of` meets its contract. Assumes nothing.
 use mathlib.Core.Path.{_∙_}
 use borrow.Author.Needs.{needs}
-use Rattle.families_session.specs.Told.{ranTold}
+use Rattle.input_session.specs.Told.{ranTold}
 use Rattle.families_text.proofs.Texts.{refused, clustered}
 use Rattle.families_text.proofs.text_of.Statement.{statement}
 use Rattle.families_text.proofs.text_of.Tie as tie

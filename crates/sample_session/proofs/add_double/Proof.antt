@@ -1,6 +1,6 @@
 -- `add_double` meets its contract. Assumes nothing.
 use borrow.Author.Needs.{needs}
-use Rattle.float.specs.Compare.{nan-test}
+use Rattle.float.specs.Laws.Compare.{nan-test}
 use Rattle.sample_session.proofs.add_double.Statement.{statement}
 use Rattle.sample_session.proofs.add_double.Tie as tie
 

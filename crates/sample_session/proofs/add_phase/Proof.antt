@@ -5,7 +5,7 @@ use mathlib.Core.Path.{_≡_, sym, _∙_}
 use native.Mathlib.Omega.{arith}
 use borrow.Author.Needs.{needs}
 use Rattle.text.specs.Text.{Added, each}
-use Rattle.text.specs.Laws.{first, more}
+use Rattle.text.specs.Laws.Pieces.{first, more}
 use Rattle.sample_session.specs.Sample.{readingBytes}
 use Rattle.sample_session.proofs.add_phase.Statement.{statement}
 use Rattle.sample_session.proofs.add_phase.Tie as tie

@@ -3,7 +3,7 @@ use mathlib.Core.Path.{ap}
 use borrow.Author.Needs.{needs}
 use lib.Ieee.{Float}
 use Rattle.float.specs.Rounded.{_⊕_, _⊖_, _⊗_, whole}
-use Rattle.text.specs.Laws.{both, worded}
+use Rattle.text.specs.Laws.Pieces.{both, worded}
 use Rattle.sample_session.specs.Sample.{doubleBytes, walked}
 use Rattle.sample_session.proofs.add_reading.Statement.{statement}
 use Rattle.sample_session.proofs.add_reading.Tie as tie

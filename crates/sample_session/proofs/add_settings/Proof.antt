@@ -1,6 +1,6 @@
 -- `add_settings` meets its contract. Assumes nothing.
 use borrow.Author.Needs.{needs}
-use Rattle.text.specs.Laws.{both}
+use Rattle.text.specs.Laws.Pieces.{both}
 use Rattle.sample_session.proofs.add_settings.Statement.{statement}
 use Rattle.sample_session.proofs.add_settings.Tie as tie
 

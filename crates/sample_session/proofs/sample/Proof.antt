@@ -2,7 +2,7 @@
 use mathlib.Core.Path.{ap}
 use native.Mathlib.Omega.{arith}
 use borrow.Author.Needs.{needs}
-use Rattle.text.specs.Laws.{both, worded, from-blank}
+use Rattle.text.specs.Laws.Pieces.{both, worded, from-blank}
 use Rattle.sample_session.specs.Sample.{phaseBytes, sampleBytes}
 use Rattle.sample_session.proofs.Sizes.{size}
 use Rattle.sample_session.proofs.sample.Statement.{statement}

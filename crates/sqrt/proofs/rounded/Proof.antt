@@ -3,7 +3,7 @@ use Prim.Native.Nat.{ℕ, _+_, _%_, _≤_, _<_}
 use native.Mathlib.Nat.{mul-le-mul-left, mul-pos}
 use native.Mathlib.Omega.{arith}
 use borrow.Author.Needs.{needs}
-use Rattle.sqrt.specs.Nearest.{rounded-bits, rounded-no-nan}
+use Rattle.sqrt.specs.Laws.Nearest.{rounded-bits, rounded-no-nan}
 use Rattle.sqrt.proofs.rounded.Statement.{statement}
 use Rattle.sqrt.proofs.rounded.Tie as tie
 

@@ -6,7 +6,7 @@ use native.Mathlib.Omega.{arith}
 use lib.Dec.{T}
 use lib.Pow.{pow-pos}
 use lib.Ieee.{binary64, fits, toBits}
-use Rattle.sqrt.specs.Values.{sqrt-of-value}
+use Rattle.sqrt.specs.Laws.Values.{sqrt-of-value}
 use Rattle.sqrt.proofs.Bits.{low-value, high-value, not-nan, bits-pos, above-all, below-zero, neither}
 use borrow.Author.Needs.{needs}
 use Rattle.sqrt.proofs.sqrt.Statement.{statement}

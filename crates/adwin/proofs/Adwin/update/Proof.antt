@@ -1,14 +1,14 @@
 -- `Adwin::update` meets its contract. Assumes nothing.
 use Rattle.adwin.proofs.Updates.{Pushed, unsearched, searched}
 use Rattle.adwin.proofs.Room.{room-is, has-place}
-use Rattle.adwin.specs.Cases.{not-finite, no-room, room-taken}
+use Rattle.adwin.specs.Laws.Cases.{not-finite, no-room, room-taken}
 use Rattle.adwin.specs.Settings.{limit, places}
 use lib.Dec.{ltb}
 use Rattle.adwin.specs.Buckets.{pushOf}
 use Rattle.adwin.specs.Window.{Window, Outcome, hasRoom, shrunk}
 use Rattle.adwin.specs.View.{heldOf, view}
-use Rattle.adwin.specs.Inside.{withHeld}
-use Rattle.buckets.specs.declared.bucket.Bucket.{Bucket}
+use Rattle.adwin.specs.Inside.Lists.{withHeld}
+use Rattle.adwin_buckets.specs.declared.bucket.Bucket.{Bucket}
 use Rattle.float.specs.Order.{isFinite}
 use borrow.Author.Tests.{not-true, not-false}
 use lib.ListN.{length-map}

@@ -1,7 +1,7 @@
 -- `Adwin::width` meets its contract. Assumes nothing.
 use lib.Ieee.{ofBits}
 use native.Mathlib.Omega.{arith}
-use Rattle.float.specs.Cutting.{can-cut}
+use Rattle.float.specs.Laws.Cutting.{can-cut}
 use Rattle.adwin.proofs.Counted.{none, all-ones}
 use borrow.Author.Needs.{needs}
 use Rattle.adwin.proofs.Adwin.width.Statement.{statement}

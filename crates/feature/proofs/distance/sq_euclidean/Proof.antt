@@ -3,9 +3,10 @@ use Prim.Native.Nat.{_≤_, _<_, _-_}
 use mathlib.Core.Path.{_≡_, sym, ap₂, _∙_}
 use native.Mathlib.Omega.{arith}
 use lib.ListN.{take}
-use Rattle.lists.specs.Rest.{rest, cut-start}
+use Rattle.lists.specs.Laws.Rest.{cut-start}
+use Rattle.lists.specs.Rest.{rest}
 use Rattle.feature.specs.Distance.{sumFrom, sqDist}
-use Rattle.feature.specs.Turns.{sum-step, sum-end}
+use Rattle.feature.specs.Laws.Turns.{sum-step, sum-end}
 use borrow.Author.Needs.{needs}
 use Rattle.feature.proofs.distance.sq_euclidean.Statement.{statement}
 use Rattle.feature.proofs.distance.sq_euclidean.Tie as tie

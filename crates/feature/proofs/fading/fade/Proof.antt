@@ -1,7 +1,7 @@
 -- `fade` meets its contract. Assumes nothing.
 use mathlib.Core.Path.{refl}
 use borrow.Author.Needs.{needs}
-use Rattle.feature.specs.Fade.{fade-is-share}
+use Rattle.feature.specs.Laws.Fade.{fade-is-share}
 use Rattle.feature.proofs.fading.fade.Statement.{statement}
 use Rattle.feature.proofs.fading.fade.Tie as tie
 

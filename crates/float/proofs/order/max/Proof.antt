@@ -1,5 +1,5 @@
 -- `max` meets its contract. Assumes nothing.
-use Rattle.float.specs.Compare.{nan-test}
+use Rattle.float.specs.Laws.Compare.{nan-test}
 use Rattle.float.proofs.order.max.Statement.{statement}
 use Rattle.float.proofs.order.max.Tie as tie
 

@@ -1,5 +1,5 @@
 -- `min` meets its contract. Assumes nothing.
-use Rattle.float.specs.Compare.{nan-test}
+use Rattle.float.specs.Laws.Compare.{nan-test}
 use Rattle.float.proofs.order.min.Statement.{statement}
 use Rattle.float.proofs.order.min.Tie as tie
 

@@ -1,7 +1,7 @@
 -- `ticks` meets its contract. Assumes nothing.
 use native.Mathlib.Omega.{arith}
 use lib.Ieee.{ofBits}
-use Rattle.float.specs.Cutting.{can-cut}
+use Rattle.float.specs.Laws.Cutting.{can-cut}
 use Rattle.model.specs.Fading.{ticksOf}
 use Rattle.model.proofs.clock.ticks.Statement.{statement}
 use Rattle.model.proofs.clock.ticks.Tie as tie

@@ -1,6 +1,6 @@
 -- `add_figure` meets its contract. Assumes nothing.
-use Rattle.float.specs.Compare.{nan-test}
-use Rattle.text.specs.Laws.{both}
+use Rattle.float.specs.Laws.Compare.{nan-test}
+use Rattle.text.specs.Laws.Pieces.{both}
 use Rattle.picture_grid.specs.Figure.{figureOf}
 use borrow.Author.Needs.{needs}
 use Rattle.picture_grid.proofs.figure.add_figure.Statement.{statement}

@@ -1,6 +1,6 @@
 -- `add_sized` meets its contract. Assumes nothing.
 use mathlib.Core.Path.{ap}
-use Rattle.text.specs.Laws.{both, worded}
+use Rattle.text.specs.Laws.Pieces.{both, worded}
 use Rattle.picture_grid.specs.Figure.{tenths}
 use borrow.Author.Needs.{needs}
 use Rattle.picture_grid.proofs.figure.add_sized.Statement.{statement}

@@ -1,6 +1,6 @@
 -- `add_tenths` meets its contract. Assumes nothing.
 use borrow.Author.Needs.{needs}
-use Rattle.text.specs.Laws.{both}
+use Rattle.text.specs.Laws.Pieces.{both}
 use Rattle.picture_grid.proofs.figure.add_tenths.Statement.{statement}
 use Rattle.picture_grid.proofs.figure.add_tenths.Tie as tie
 

@@ -1,7 +1,7 @@
 -- `rounded` meets its contract. Assumes nothing.
 use native.Mathlib.Omega.{arith}
 use lib.Ieee.{ofBits}
-use Rattle.float.specs.Cutting.{can-cut}
+use Rattle.float.specs.Laws.Cutting.{can-cut}
 use Rattle.picture_grid.specs.Figure.{roundedOf}
 use Rattle.picture_grid.proofs.figure.rounded.Statement.{statement}
 use Rattle.picture_grid.proofs.figure.rounded.Tie as tie

@@ -1,5 +1,5 @@
 -- `add_border` meets its contract. Assumes nothing.
-use Rattle.text.specs.Laws.{both}
+use Rattle.text.specs.Laws.Pieces.{both}
 use borrow.Author.Needs.{needs}
 use Rattle.picture_grid.proofs.grid.add_border.Statement.{statement}
 use Rattle.picture_grid.proofs.grid.add_border.Tie as tie

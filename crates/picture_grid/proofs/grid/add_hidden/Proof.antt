@@ -2,7 +2,7 @@
 use lib.ListN.{length-map}
 use mathlib.Core.Path.{sym, _∙_}
 use borrow.Author.Tests.{eq-eqb, ne-eqb}
-use Rattle.text.specs.Laws.{nothing, both}
+use Rattle.text.specs.Laws.Pieces.{nothing, both}
 use borrow.Author.Needs.{needs}
 use Rattle.picture_grid.proofs.grid.add_hidden.Statement.{statement}
 use Rattle.picture_grid.proofs.grid.add_hidden.Tie as tie

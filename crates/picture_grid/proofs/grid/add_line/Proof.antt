@@ -5,7 +5,7 @@ use mathlib.Core.Path.{_≡_, ap, sym, _∙_}
 use mathlib.Core.List.{[], _∷_}
 use native.Mathlib.Omega.{arith}
 use Rattle.text.specs.Text.{Added, each}
-use Rattle.text.specs.Laws.{first, more, worded}
+use Rattle.text.specs.Laws.Pieces.{first, more, worded}
 use Rattle.picture_grid.specs.Grid.{cellText}
 use borrow.Author.Needs.{needs}
 use Rattle.picture_grid.proofs.grid.add_line.Statement.{statement}

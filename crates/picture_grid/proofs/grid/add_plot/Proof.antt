@@ -1,5 +1,5 @@
 -- `add_plot` meets its contract. Assumes nothing.
-use Rattle.text.specs.Laws.{both}
+use Rattle.text.specs.Laws.Pieces.{both}
 use Rattle.picture_grid.specs.Grid.{gridText}
 use borrow.Author.Needs.{needs}
 use Rattle.picture_grid.proofs.grid.add_plot.Statement.{statement}

@@ -1,7 +1,7 @@
 -- `add_row` meets its contract. Assumes nothing.
 use Prim.Native.Nat.{_+_, _*_}
 use mathlib.Core.Path.{_≡_, ap}
-use Rattle.text.specs.Laws.{both, worded}
+use Rattle.text.specs.Laws.Pieces.{both, worded}
 use Rattle.picture_grid.specs.Figure.{tenths}
 use Rattle.picture_grid.specs.Upward.{lowOf, stepOf}
 use Rattle.picture_grid.proofs.Lines.{lines-fit}

@@ -4,7 +4,7 @@ use Prim.Native.Nat.{ℕ, _-_, _≤_}
 use mathlib.Core.Path.{_≡_, sym, _∙_}
 use native.Mathlib.Omega.{arith}
 use Rattle.text.specs.Text.{Added, each}
-use Rattle.text.specs.Laws.{first, more}
+use Rattle.text.specs.Laws.Pieces.{first, more}
 use Rattle.picture_grid.specs.Grid.{rowText}
 use borrow.Author.Needs.{needs}
 use Rattle.picture_grid.proofs.grid.add_rows.Statement.{statement}

@@ -6,7 +6,8 @@ use native.Mathlib.Omega.{arith}
 use borrow.Author.Needs.{needs}
 use lib.ListN.{take, length}
 use Rattle.model.specs.Limits.{microsMost}
-use Rattle.lists.specs.Rest.{rest, cut-take}
+use Rattle.lists.specs.Laws.Rest.{cut-take}
+use Rattle.lists.specs.Rest.{rest}
 use Rattle.readout.specs.Found.{nearestAmong}
 use Rattle.readout.proofs.Search.{foundFrom, found-none, found-start, found-take, found-keep, found-end}
 use Rattle.readout.proofs.distances.nearest.Statement.{statement}

@@ -12,7 +12,8 @@ use mir.Syntax.{w64}
 use mir.Val.{toZ, ofZ}
 use mir.Facts.{toZ-ofZ}
 use Rattle.model.specs.Limits.{microsMost}
-use Rattle.lists.specs.Rest.{rest, cut-start}
+use Rattle.lists.specs.Laws.Rest.{cut-start}
+use Rattle.lists.specs.Rest.{rest}
 use Rattle.model.specs.ReadOut.{clustersIn}
 use Rattle.readout.proofs.Counting.{count-step, count-end}
 use Rattle.readout.proofs.labels.n_clusters.Statement.{statement}

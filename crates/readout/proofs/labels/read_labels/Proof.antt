@@ -6,7 +6,7 @@ use borrow.Author.Needs.{needs}
 use lib.ListN.{length, take}
 use lib.IntN.{ℤ}
 use Rattle.model.specs.Limits.{microsMost}
-use Rattle.lists.specs.Rest.{cut-take}
+use Rattle.lists.specs.Laws.Rest.{cut-take}
 use Rattle.model.specs.ReadOut.{written}
 use Rattle.readout.proofs.Copies.{cut-length}
 use Rattle.readout.proofs.Slices.{labels-short, labels-written}

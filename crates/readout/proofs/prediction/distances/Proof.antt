@@ -4,7 +4,7 @@ use native.Mathlib.Omega.{arith}
 use lib.ListN.{take}
 use borrow.Author.Needs.{needs}
 use Rattle.readout.specs.Seen.{distanceIn}
-use Rattle.lists.specs.Counted.{Gathered, gather-starts, gather-goes, gather-ends}
+use Rattle.lists.specs.Laws.Counted.{Gathered, gather-starts, gather-goes, gather-ends}
 use Rattle.readout.proofs.prediction.distances.Statement.{statement}
 use Rattle.readout.proofs.prediction.distances.Tie as tie
 

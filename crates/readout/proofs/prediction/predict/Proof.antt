@@ -5,7 +5,7 @@ use mathlib.Core.Path.{_∙_}
 use mir.Syntax.{w64}
 use mir.Facts.{toZ-ofZ}
 use lib.ListN.{take}
-use Rattle.model.specs.InsertLaws.{point-is}
+use Rattle.model.specs.Laws.Insert.{point-is}
 use Rattle.readout.proofs.Predicting.{predict-shape, predict-label}
 use Rattle.readout.proofs.prediction.predict.Statement.{statement}
 use Rattle.readout.proofs.prediction.predict.Tie as tie

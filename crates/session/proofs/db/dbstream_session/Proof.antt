@@ -5,11 +5,11 @@ use Rattle.model.specs.Answers.{openingNumber}
 use Rattle.model.specs.Outcome.{Opened}
 use Rattle.model.specs.DbState.{State}
 use Rattle.model.specs.Dbstream.{insertOf, clusterOf}
-use Rattle.dbstream.specs.Stream.{view, openedTold}
+use Rattle.dbstream.specs.View.{view, openedTold}
 use Rattle.session.specs.Points.{pointsOf}
 use Rattle.session.specs.Whole.{Session, sessionOf}
-use Rattle.session.specs.DbRuns.{both-told}
-use Rattle.session.specs.Cases.{not-opened, too-short, ran}
+use Rattle.session.specs.Laws.DbRuns.{both-told}
+use Rattle.session.specs.Laws.Cases.{not-opened, too-short, ran}
 use borrow.Author.Needs.{needs}
 use Rattle.session.proofs.db.dbstream_session.Statement.{statement}
 use Rattle.session.proofs.db.dbstream_session.Tie as tie

@@ -6,8 +6,8 @@ use Rattle.model.specs.Answers.{insertionNumber}
 use Rattle.model.specs.Outcome.{Outcome}
 use Rattle.model.specs.DbState.{State}
 use Rattle.model.specs.Dbstream.{insertOf}
-use Rattle.dbstream.specs.Stream.{view}
-use Rattle.session.specs.Going.{Going, going-start, going-on, going-end}
+use Rattle.dbstream.specs.View.{view}
+use Rattle.session.specs.Laws.Going.{Going, going-start, going-on, going-end}
 use borrow.Author.Needs.{needs}
 use Rattle.session.proofs.db.inserts.Statement.{statement}
 use Rattle.session.proofs.db.inserts.Tie as tie

@@ -8,8 +8,8 @@ use Rattle.model.specs.Denstream.{insertOf, clusterOf}
 use Rattle.denstream.specs.View.{view, openedTold}
 use Rattle.session.specs.Points.{pointsOf}
 use Rattle.session.specs.Whole.{Session, sessionOf}
-use Rattle.session.specs.DenRuns.{both-told}
-use Rattle.session.specs.Cases.{not-opened, too-short, ran}
+use Rattle.session.specs.Laws.DenRuns.{both-told}
+use Rattle.session.specs.Laws.Cases.{not-opened, too-short, ran}
 use borrow.Author.Needs.{needs}
 use Rattle.session.proofs.den.denstream_session.Statement.{statement}
 use Rattle.session.proofs.den.denstream_session.Tie as tie

@@ -7,7 +7,7 @@ use Rattle.model.specs.Outcome.{Outcome}
 use Rattle.model.specs.DenState.{State}
 use Rattle.model.specs.Denstream.{insertOf}
 use Rattle.denstream.specs.View.{view}
-use Rattle.session.specs.Going.{Going, going-start, going-on, going-end}
+use Rattle.session.specs.Laws.Going.{Going, going-start, going-on, going-end}
 use borrow.Author.Needs.{needs}
 use Rattle.session.proofs.den.inserts.Statement.{statement}
 use Rattle.session.proofs.den.inserts.Tie as tie

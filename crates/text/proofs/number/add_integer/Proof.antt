@@ -7,7 +7,7 @@ use mir.Facts.{toZ-ofZ}
 use borrow.Author.Needs.{needs}
 use Rattle.text.specs.Ascii.{ascii}
 use Rattle.text.specs.Decimal.{decimal}
-use Rattle.text.specs.Laws.{both, worded}
+use Rattle.text.specs.Laws.Pieces.{both, worded}
 use Rattle.text.proofs.Magnitudes.{text-above, text-below}
 use Rattle.text.proofs.number.add_integer.Statement.{statement}
 use Rattle.text.proofs.number.add_integer.Tie as tie

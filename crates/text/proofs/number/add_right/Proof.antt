@@ -6,7 +6,7 @@ use borrow.Author.Needs.{needs}
 use lib.ListN.{length}
 use Rattle.text.proofs.Decimals.{decimal-is}
 use Rattle.text.specs.Text.{Added, blanks}
-use Rattle.text.specs.Laws.{both}
+use Rattle.text.specs.Laws.Pieces.{both}
 use Rattle.text.proofs.number.add_right.Statement.{statement}
 use Rattle.text.proofs.number.add_right.Tie as tie
 

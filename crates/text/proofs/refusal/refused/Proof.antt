@@ -2,8 +2,8 @@
 use native.Mathlib.Omega.{arith}
 use borrow.Author.Needs.{needs}
 use Rattle.text.specs.Ascii.{ascii}
-use Rattle.text.specs.Laws.{both, from-blank}
-use Rattle.text.specs.Sizes.{piece, beside, number-within}
+use Rattle.text.specs.Laws.Pieces.{both, from-blank}
+use Rattle.text.specs.Laws.Sizes.{piece, beside, number-within}
 use Rattle.text.proofs.refusal.refused.Statement.{statement}
 use Rattle.text.proofs.refusal.refused.Tie as tie
 

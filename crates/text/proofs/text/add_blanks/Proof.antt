@@ -6,7 +6,7 @@ use borrow.Author.Needs.{needs}
 use lib.ListN.{length-map}
 use Rattle.text.specs.Ascii.{ascii}
 use Rattle.text.specs.Text.{Added, blanks}
-use Rattle.text.specs.Laws.{first, more}
+use Rattle.text.specs.Laws.Pieces.{first, more}
 use Rattle.text.proofs.text.add_blanks.Statement.{statement}
 use Rattle.text.proofs.text.add_blanks.Tie as tie
 

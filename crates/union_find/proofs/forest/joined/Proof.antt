@@ -7,8 +7,8 @@ use lib.ListN.{length, drop}
 use Rattle.union_find.specs.declared.forest.UnionFind.{UnionFind}
 use Rattle.union_find.specs.Pairs.{pairsOf}
 use Rattle.union_find.specs.Forest.{newOf, joinAll}
-use Rattle.union_find.specs.WellFormed.{Sound}
-use Rattle.union_find.specs.UnionLaws.{new-law}
+use Rattle.union_find.specs.Inside.WellFormed.{Sound}
+use Rattle.union_find.specs.Laws.Union.{new-law}
 use Rattle.union_find.proofs.Joining.{join-sound, join-step, join-end}
 use Rattle.union_find.proofs.forest.joined.Statement.{statement}
 use Rattle.union_find.proofs.forest.joined.Tie as tie

@@ -1,9 +1,9 @@
 use native.Mathlib.Omega.{arith}
 use mathlib.Core.Path.{_≡_, refl, sym, _∙_}
 use Rattle.model.specs.Dbstream.{clusterOf}
-use Rattle.dbstream.specs.Stream.{view}
+use Rattle.dbstream.specs.View.{view}
 use Rattle.whole_runs.specs.Told.{iterate}
-use Rattle.whole_runs.specs.StreamLaws.{iterate-next, iterate-end}
+use Rattle.whole_runs.specs.Laws.Stream.{iterate-next, iterate-end}
 use borrow.Author.Needs.{needs}
 use Rattle.whole_runs.proofs.db.clustered.Statement.{statement}
 use Rattle.whole_runs.proofs.db.clustered.Tie as tie

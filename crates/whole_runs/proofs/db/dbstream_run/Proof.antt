@@ -1,6 +1,6 @@
 use Rattle.model.specs.Dbstream.{clusterOf}
 use Rattle.whole_runs.specs.Streams.{dbstreamFigures}
-use Rattle.whole_runs.specs.StreamLaws.{read-out}
+use Rattle.whole_runs.specs.Laws.Stream.{read-out}
 use borrow.Author.Needs.{needs}
 use Rattle.whole_runs.proofs.db.dbstream_run.Statement.{statement}
 use Rattle.whole_runs.proofs.db.dbstream_run.Tie as tie

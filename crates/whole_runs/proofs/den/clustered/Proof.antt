@@ -3,7 +3,7 @@ use mathlib.Core.Path.{_≡_, refl, sym, _∙_}
 use Rattle.model.specs.Denstream.{clusterOf}
 use Rattle.denstream.specs.View.{view}
 use Rattle.whole_runs.specs.Told.{iterate}
-use Rattle.whole_runs.specs.StreamLaws.{iterate-next, iterate-end}
+use Rattle.whole_runs.specs.Laws.Stream.{iterate-next, iterate-end}
 use borrow.Author.Needs.{needs}
 use Rattle.whole_runs.proofs.den.clustered.Statement.{statement}
 use Rattle.whole_runs.proofs.den.clustered.Tie as tie

@@ -1,6 +1,6 @@
 use Rattle.model.specs.Denstream.{clusterOf}
 use Rattle.whole_runs.specs.Streams.{denstreamFigures}
-use Rattle.whole_runs.specs.StreamLaws.{read-out}
+use Rattle.whole_runs.specs.Laws.Stream.{read-out}
 use borrow.Author.Needs.{needs}
 use Rattle.whole_runs.proofs.den.denstream_run.Statement.{statement}
 use Rattle.whole_runs.proofs.den.denstream_run.Tie as tie

@@ -4,7 +4,7 @@ use mathlib.Core.Bool.{cond}
 use lib.ListN.{length}
 use Rattle.adwin.specs.Window.{Window, Outcome, newOf}
 use Rattle.adwin.specs.View.{view, rings}
-use Rattle.whole_runs.specs.WindowLaws.{one-at-most, Going, going-start, going-on, going-end, run-figures}
+use Rattle.whole_runs.specs.Laws.Window.{one-at-most, Going, going-start, going-on, going-end, run-figures}
 use borrow.Author.Needs.{needs}
 use Rattle.whole_runs.proofs.window.window_run.Statement.{statement}
 use Rattle.whole_runs.proofs.window.window_run.Tie as tie

@@ -8,7 +8,7 @@ use lib.Ieee.{binary64, toBits, fits}
 use lib.Ieee.Bits.{toBits-lt}
 use native.Mathlib.Nat.{pow-le-pow-right}
 use Rattle.io.specs.Digits.{Fewest}
-use Rattle.float.specs.Compare.{nan-test}
+use Rattle.float.specs.Laws.Compare.{nan-test}
 use Rattle.words.proofs.text.double_text.Statement.{statement}
 use Rattle.words.proofs.text.double_text.Tie as tie
 

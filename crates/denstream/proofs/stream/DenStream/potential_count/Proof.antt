@@ -4,7 +4,7 @@ use mathlib.Core.Path.{_≡_, sym, _∙_}
 use native.Mathlib.Omega.{arith}
 use lib.ListN.{length, length-map}
 use borrow.Author.Needs.{needs}
-use Rattle.placement.specs.PoolLaws.{held-length}
+use Rattle.den_placement.specs.Laws.Pools.{held-length}
 use Rattle.denstream.specs.View.{view}
 use Rattle.denstream.proofs.stream.DenStream.potential_count.Statement.{statement}
 use Rattle.denstream.proofs.stream.DenStream.potential_count.Tie as tie

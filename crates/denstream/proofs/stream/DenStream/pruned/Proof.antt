@@ -4,7 +4,7 @@ use mathlib.Core.Path.{_≡_, sym, ap, _∙_}
 use lib.ListN.{length, length-map}
 use borrow.Author.Needs.{needs}
 use Rattle.model.specs.Stream.{holding}
-use Rattle.placement.specs.PoolLaws.{prunes}
+use Rattle.den_placement.specs.Laws.Pools.{prunes}
 use Rattle.denstream.specs.View.{view}
 use Rattle.denstream.proofs.stream.DenStream.pruned.Statement.{statement}
 use Rattle.denstream.proofs.stream.DenStream.pruned.Tie as tie

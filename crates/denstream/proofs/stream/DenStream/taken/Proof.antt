@@ -8,8 +8,8 @@ use borrow.Author.Needs.{needs}
 use lib.ListN.{length-map}
 use Rattle.model.specs.DenState.{State}
 use Rattle.model.specs.Denstream.{tickOf}
-use Rattle.model.specs.InsertLaws.{when-done, when-refused}
-use Rattle.placement.specs.Placing.{takes}
+use Rattle.model.specs.Laws.Insert.{when-done, when-refused}
+use Rattle.den_placement.specs.Placing.{takes}
 use Rattle.denstream.specs.declared.stream.DenStream.{DenStream}
 use Rattle.denstream.specs.View.{view}
 use Rattle.denstream.proofs.Ticks.{cleared}

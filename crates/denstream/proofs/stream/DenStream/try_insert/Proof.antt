@@ -6,8 +6,8 @@ use lib.ListN.{length, take}
 use borrow.Author.Needs.{needs}
 use Rattle.model.specs.Questions.{insertionAsked}
 use Rattle.denstream.specs.View.{view}
-use Rattle.model.specs.InsertLaws.{point-is, given-back}
-use Rattle.model.specs.NumberLaws.{insertion-said}
+use Rattle.model.specs.Laws.Insert.{point-is, given-back}
+use Rattle.model.specs.Laws.Numbers.{insertion-said}
 use Rattle.model.specs.Denstream.{denstream}
 use Rattle.denstream.proofs.Inserts.{Met, placing, room, inserted}
 use Rattle.denstream.proofs.stream.DenStream.try_insert.Statement.{statement}

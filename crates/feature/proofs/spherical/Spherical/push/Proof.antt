@@ -5,10 +5,11 @@ use mathlib.Core.List.{List, _++_}
 use native.Mathlib.Omega.{arith}
 use lib.Ieee.{Float}
 use lib.ListN.{length, take, drop, length-set, length-map}
-use Rattle.lists.specs.Rest.{rest, cut-start}
+use Rattle.lists.specs.Laws.Rest.{cut-start}
+use Rattle.lists.specs.Rest.{rest}
 use Rattle.feature.specs.Distance.{sumFrom, sqDist}
 use Rattle.feature.specs.Feature.{moved}
-use Rattle.feature.specs.Turns.{moved-step, gaps-step, moved-end, gaps-end}
+use Rattle.feature.specs.Laws.Turns.{moved-step, gaps-step, moved-end, gaps-end}
 use borrow.Author.Needs.{needs}
 use Rattle.feature.proofs.spherical.Spherical.push.Statement.{statement}
 use Rattle.feature.proofs.spherical.Spherical.push.Tie as tie

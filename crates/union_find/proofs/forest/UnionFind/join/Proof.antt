@@ -1,7 +1,7 @@
 -- `join` meets its contract: a union where both places are below n. Assumes nothing.
 use mathlib.Core.Path.{sym, _∙_}
 use native.Mathlib.Omega.{arith}
-use Rattle.union_find.specs.RootLaws.{join-in, join-out}
+use Rattle.union_find.specs.Laws.Root.{join-in, join-out}
 use Rattle.union_find.proofs.forest.UnionFind.join.Statement.{statement}
 use Rattle.union_find.proofs.forest.UnionFind.join.Tie as tie
 

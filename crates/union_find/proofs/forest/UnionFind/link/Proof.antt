@@ -2,7 +2,7 @@
 use mathlib.Core.Path.{sym}
 use native.Mathlib.Omega.{arith}
 use borrow.Author.Needs.{needs}
-use Rattle.union_find.specs.UnionLaws.{link-same, link-less, link-more, link-equal}
+use Rattle.union_find.specs.Laws.Union.{link-same, link-less, link-more, link-equal}
 use Rattle.union_find.proofs.forest.UnionFind.link.Statement.{statement}
 use Rattle.union_find.proofs.forest.UnionFind.link.Tie as tie
 

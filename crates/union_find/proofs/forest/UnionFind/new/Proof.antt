@@ -7,7 +7,7 @@ use borrow.Author.Count.{below-more}
 use lib.ListN.{length, getD, length-set, replicate}
 use lib.Seq.{getD-set-same, getD-set-other, ext-getD}
 use Rattle.union_find.specs.Forest.{newOf, table}
-use Rattle.union_find.specs.UnionLaws.{table-length, table-at}
+use Rattle.union_find.specs.Laws.Union.{table-length, table-at}
 use Rattle.union_find.proofs.forest.UnionFind.new.Statement.{statement}
 use Rattle.union_find.proofs.forest.UnionFind.new.Tie as tie
 

@@ -1,0 +1,30 @@
+-- `Search::past` meets its contract. Assumes nothing.
+use Rattle.adwin_buckets.specs.Inside.Search.{pastIf}
+use mathlib.Core.Path.{sym, ap, _∙_}
+use mathlib.Core.Bool.{Bool}
+use borrow.Author.Needs.{needs}
+use Rattle.adwin_buckets.proofs.search.Search.past.Statement.{statement}
+use Rattle.adwin_buckets.proofs.search.Search.past.Tie as tie
+
+fails-requires : tie.Need-fails-requires
+fails-requires c κs = search needs
+
+add-self : tie.Need-add-self
+add-self c = search needs
+
+sub-self : tie.Need-sub-self
+sub-self c = search needs
+
+returns : tie.Need-returns
+returns c =
+    let a = c .before .before .before .before .before .before .before .args in
+    ap (λ (f : Bool). pastIf f (a .self) (a .b)) (sym (c .if1 .taken) ∙ c .before .fails .ensures)
+
+returns-2 : tie.Need-returns-2
+returns-2 c =
+    let k = c .before .before in
+    let a = k .before .before .before .before .before .before .before .args in
+    ap (λ (f : Bool). pastIf f (a .self) (a .b)) (sym (k .if1 .left) ∙ k .before .fails .ensures)
+
+pub past-spec : {M : Type 1} → statement M
+past-spec = tie.close (tie.spec fails-requires add-self sub-self returns returns-2)

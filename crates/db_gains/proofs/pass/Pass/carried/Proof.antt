@@ -1,0 +1,26 @@
+-- `Pass::carried` meets its contract. Assumes nothing.
+use mathlib.Core.Path.{sym}
+use borrow.Author.Tests.{lt-ltb, le-ltb}
+use borrow.Author.Needs.{needs}
+use Rattle.db_gains.proofs.pass.Pass.carried.Statement.{statement}
+use Rattle.db_gains.proofs.pass.Pass.carried.Tie as tie
+
+cut-requires : tie.Need-cut-requires
+cut-requires c κs = search needs
+
+add-at : tie.Need-add-at
+add-at c = search needs
+
+returns : tie.Need-returns
+returns c =
+    sym (rw (← c .before .before .before .before .before .cut .ensures, lt-ltb _ _ (c .before .before .before .if1 .taken)))
+
+add-t13 : tie.Need-add-t13
+add-t13 c = search needs
+
+returns-2 : tie.Need-returns-2
+returns-2 c =
+    sym (rw (← c .before .before .before .before .before .cut .ensures, le-ltb _ _ (c .before .before .before .if1 .left)))
+
+pub carried-spec : {M : Type 1} → statement M
+carried-spec = tie.close (tie.spec cut-requires add-at returns add-t13 returns-2)

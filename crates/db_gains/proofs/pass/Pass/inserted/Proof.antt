@@ -1,0 +1,29 @@
+-- `Pass::inserted` meets its contract. Assumes nothing.
+use mathlib.Core.Path.{sym, _∙_}
+use borrow.Author.Tests.{lt-ltb, le-ltb}
+use Rattle.db_gains.specs.Factor.{gain-by}
+use borrow.Author.Needs.{needs}
+use Rattle.db_gains.proofs.pass.Pass.inserted.Statement.{statement}
+use Rattle.db_gains.proofs.pass.Pass.inserted.Tie as tie
+
+fade-requires : tie.Need-fade-requires
+fade-requires c κs = search needs
+
+gained-requires : tie.Need-gained-requires
+gained-requires c κs = search needs
+
+returns : tie.Need-returns
+returns c =
+    let a = c .before .before .before .before .before .before .before .before .args in
+    sym (rw (
+      lt-ltb _ _ (c .before .before .before .before .if1 .taken),
+      ←
+          (c .before .before .gained .ensures ∙ gain-by (a .lambda) (a .t) (c .before .before .before .fade .result) (a .self .walk .key)
+          (c .before .before .before .fade .ensures .0)),
+    ))
+
+returns-2 : tie.Need-returns-2
+returns-2 c = sym (rw (le-ltb _ _ (c .if1 .left)))
+
+pub inserted-spec : {M : Type 1} → statement M
+inserted-spec = tie.close (tie.spec fade-requires gained-requires returns returns-2)

@@ -1,0 +1,27 @@
+-- `Pass::step` meets its contract. Assumes nothing.
+use mathlib.Core.Path.{refl}
+use Rattle.db_gains.proofs.Passes.{stepped}
+use borrow.Author.Needs.{needs}
+use Rattle.db_gains.proofs.pass.Pass.step.Statement.{statement}
+use Rattle.db_gains.proofs.pass.Pass.step.Tie as tie
+
+turn-requires : tie.Need-turn-requires
+turn-requires c κs = search needs
+
+next-requires : tie.Need-next-requires
+next-requires c κs = search needs
+
+returns : tie.Need-returns
+returns c =
+    let a = c .before .before .before .before .before .args in
+    let turn = c .before .before .before .before .turn in
+    stepped (a .lambda) (a .t) (a .self) (a .l) (a .ids) (a .k) (turn .result) _ (c .next .result) (turn .ensures) (c .before .if1 .taken) (c .next .ensures)
+
+returns-2 : tie.Need-returns-2
+returns-2 c =
+    let a = c .before .before .before .before .args in
+    let turn = c .before .before .before .turn in
+    stepped (a .lambda) (a .t) (a .self) (a .l) (a .ids) (a .k) (turn .result) _ _ (turn .ensures) (c .if1 .left) refl
+
+pub step-spec : {M : Type 1} → statement M
+step-spec = tie.close (tie.spec turn-requires next-requires returns returns-2)

@@ -1,0 +1,76 @@
+-- `to` meets its contract. Assumes nothing.
+use Prim.Native.Nat.{ℕ}
+use mathlib.Core.Path.{ap₂, _≡_, sym, _∙_}
+use mathlib.Core.Bool.{true, false}
+use borrow.Author.Needs.{needs}
+use lib.ListN.{getD}
+use Rattle.db_link.specs.Order.{keyOf}
+use Rattle.db_gains.specs.Walk.{idAt}
+use Rattle.db_gains.proofs.Walks.{walked}
+use Rattle.db_gains.proofs.walk.Walk.to.Statement.{statement}
+use Rattle.db_gains.proofs.walk.Walk.to.Tie as tie
+
+sub-cut : tie.Need-sub-cut
+sub-cut c = search needs
+
+cut-requires : tie.Need-cut-requires
+cut-requires c κs = search needs
+
+mul-a : tie.Need-mul-a
+mul-a c = search needs
+
+array-copy-out-a : tie.Need-array-copy-out-a
+array-copy-out-a c = search needs
+
+sub-cut-2 : tie.Need-sub-cut-2
+sub-cut-2 c = search needs
+
+cut-requires-2 : tie.Need-cut-requires-2
+cut-requires-2 c κs = search needs
+
+mul-b : tie.Need-mul-b
+mul-b c = search needs
+
+array-copy-out-b : tie.Need-array-copy-out-b
+array-copy-out-b c = search needs
+
+key-of-requires : tie.Need-key-of-requires
+key-of-requires c κs = search needs
+
+is-before-requires : tie.Need-is-before-requires
+is-before-requires c κs = search needs
+
+returns : tie.Need-returns
+returns c =
+    let a = c .before .before .before .before .before .before .before .before .args in
+    let e : c .before .before .before .«key-of» .result ≡ keyOf (idAt (a .t2) (a .i)) (idAt (a .t2) (a .j)) (a .t) =
+    c .before .before .before .«key-of» .ensures
+    ∙ ap₂ (λ (x y : ℕ). keyOf (getD (a .t2) x (record { 0 = 0 })) (getD (a .t2) y (record { 0 = 0 })) (a .t))
+    (c .before .before .before .before .before .before .before .cut .ensures) (c .before .before .before .before .before .cut2 .ensures) in
+    walked (a .t2) (a .t) (a .self) (a .i) (a .j) (c .before .before .before .«key-of» .result) true e (sym (c .before .«is-before» .ensures) ∙ c .if1 .taken)
+
+returns-2 : tie.Need-returns-2
+returns-2 c =
+    let a = c .before .before .before .before .before .before .before .before .args in
+    let e : c .before .before .before .«key-of» .result ≡ keyOf (idAt (a .t2) (a .i)) (idAt (a .t2) (a .j)) (a .t) =
+    c .before .before .before .«key-of» .ensures
+    ∙ ap₂ (λ (x y : ℕ). keyOf (getD (a .t2) x (record { 0 = 0 })) (getD (a .t2) y (record { 0 = 0 })) (a .t))
+    (c .before .before .before .before .before .before .before .cut .ensures) (c .before .before .before .before .before .cut2 .ensures) in
+    walked (a .t2) (a .t) (a .self) (a .i) (a .j) (c .before .before .before .«key-of» .result) false e (sym (c .before .«is-before» .ensures) ∙ c .if1 .left)
+
+pub to-spec : {M : Type 1} → statement M
+to-spec =
+    tie.close
+    (tie.spec
+    sub-cut
+    cut-requires
+    mul-a
+    array-copy-out-a
+    sub-cut-2
+    cut-requires-2
+    mul-b
+    array-copy-out-b
+    key-of-requires
+    is-before-requires
+    returns
+    returns-2)

@@ -1,0 +1,4 @@
+-- What follows from the definitions, for proofs.
+pub mod Passed
+pub mod Walking
+pub mod Passing

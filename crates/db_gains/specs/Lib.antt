@@ -1,0 +1,4 @@
+pub mod Walk
+pub mod Factor
+pub mod Pass
+pub mod Laws

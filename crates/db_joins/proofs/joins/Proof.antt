@@ -1,0 +1,35 @@
+-- `joins` meets its contract. Assumes nothing.
+use mathlib.Core.Path.{sym, _∙_}
+use borrow.Author.Needs.{needs}
+use Rattle.db_joins.proofs.joins.Statement.{statement}
+use Rattle.db_joins.proofs.joins.Tie as tie
+
+is-strong-requires : tie.Need-is-strong-requires
+is-strong-requires c κs = search needs
+
+is-strong-requires-2 : tie.Need-is-strong-requires-2
+is-strong-requires-2 c κs = search needs
+
+faded-requires : tie.Need-faded-requires
+faded-requires c κs = search needs
+
+returns : tie.Need-returns
+returns c =
+    sym (rw (
+      sym (c .before .before .before .before .«is-strong» .ensures)
+          ∙ c .before .before .before .if1 .taken,
+      sym (c .before .before .«is-strong2» .ensures) ∙ c .before .if2 .taken,
+      ← c .faded .ensures,
+    ))
+
+returns-2 : tie.Need-returns-2
+returns-2 c =
+    sym (rw (sym (c .before .before .before .«is-strong» .ensures) ∙ c .before .before .if1 .taken, sym (c .before .«is-strong2» .ensures) ∙ c .if2 .left))
+
+returns-3 : tie.Need-returns-3
+returns-3 c = sym (rw (sym (c .before .«is-strong» .ensures) ∙ c .if1 .left))
+
+pub joins-spec : {M : Type 1} → statement M
+joins-spec =
+    tie.close
+    (tie.spec is-strong-requires is-strong-requires-2 faded-requires returns returns-2 returns-3)

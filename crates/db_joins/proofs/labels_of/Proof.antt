@@ -1,0 +1,66 @@
+-- `labels_of` meets its contract. Assumes nothing.
+use mathlib.Core.Path.{_≡_, sym, _∙_}
+use native.Mathlib.Omega.{arith}
+use lib.ListN.{length, take, length-map}
+use lib.Seq.{length-take-le}
+use Rattle.db_joins.proofs.Labelling.{labelled}
+use borrow.Author.Needs.{needs}
+use Rattle.db_joins.proofs.labels_of.Statement.{statement}
+use Rattle.db_joins.proofs.labels_of.Tie as tie
+
+cut-requires : tie.Need-cut-requires
+cut-requires c κs = search needs
+
+joined-requires : tie.Need-joined-requires
+joined-requires c κs = search needs
+
+-- the arrays of the pairs have 2,016 places
+room-a : (c : tie.After-joined) → length (c .joined .result .a) ≡ 2016
+room-a c = sym (length-map (c .joined .result .a) _) ∙ c .joined .ok .1 .1 .0 .1 .0 .1
+
+room-b : (c : tie.After-joined) → length (c .joined .result .b) ≡ 2016
+room-b c = sym (length-map (c .joined .result .b) _) ∙ c .joined .ok .1 .1 .1 .0 .1 .0 .1
+
+array-share-prefix-a : tie.Need-array-share-prefix-a
+array-share-prefix-a c = omega (arith, room-a (c .before .before), c .before .before .joined .ensures .1)
+
+slice-aggregate-roots : tie.Need-slice-aggregate-roots
+slice-aggregate-roots c =
+    sym (length-take-le _ (c .before .before .before .joined .result .a)
+    (omega (arith, room-a (c .before .before .before), c .before .before .before .joined .ensures .1)))
+
+array-share-prefix-b : tie.Need-array-share-prefix-b
+array-share-prefix-b c = omega (arith, room-b (c .before .before .before), c .before .before .before .joined .ensures .1)
+
+slice-aggregate-roots-2 : tie.Need-slice-aggregate-roots-2
+slice-aggregate-roots-2 c =
+    sym (length-take-le _ (c .before .before .before .before .joined .result .b)
+    (omega (arith, room-b (c .before .before .before .before), c .before .before .before .before .joined .ensures .1)))
+
+roots-requires : tie.Need-roots-requires
+roots-requires c κs = search needs
+
+labels-requires : tie.Need-labels-requires
+labels-requires c κs = search needs
+
+returns : tie.Need-returns
+returns c =
+    let a = c .before .before .before .before .before .before .before .before .args in
+    let n = c .before .before .before .before .before .before .before .cut in
+    labelled (a .n) (n .result) (a .ids) (a .strong) (a .lambda) (a .t) (a .dense) (take (a .count) (a .links)) _ (c .before .roots .result)
+    (c .labels .result) (n .ensures) (omega arith) (omega arith) (omega arith) (omega arith)
+    (c .before .before .before .before .before .before .joined .ensures .0) (c .before .roots .ensures) (c .labels .ensures)
+
+pub labels-of-spec : {M : Type 1} → statement M
+labels-of-spec =
+    tie.close
+    (tie.spec
+    cut-requires
+    joined-requires
+    array-share-prefix-a
+    slice-aggregate-roots
+    array-share-prefix-b
+    slice-aggregate-roots-2
+    roots-requires
+    labels-requires
+    returns)

@@ -1,0 +1,59 @@
+-- The searches by creation number, one element at a time. Assumes nothing.
+use Prim.Native.Nat.{ℕ, _+_, _≤_, _<_}
+use mathlib.Core.Path.{_≡_}
+use mathlib.Core.Logic.{_≢_}
+use mathlib.Core.Bool.{Bool, true, false, not}
+use mathlib.Core.List.{List}
+use borrow.Author.Tests.{eq-eqb, ne-eqb}
+use lib.Ieee.{Float, lt}
+use lib.ListN.{length, getD}
+use Rattle.float.specs.Rounded.{nought}
+use Rattle.lists.specs.Laws.Rest.{rest-step, rest-end}
+use Rattle.lists.specs.Rest.{rest}
+use Rattle.model.specs.Any.{any}
+use Rattle.model.specs.declared.micro.MicroId.{MicroId}
+use Rattle.model.specs.declared.link.Link.{Link}
+use Rattle.model.specs.DbInsert.{fadedLink, sameEnds}
+use Rattle.model.specs.DbCluster.{ofLink}
+use Rattle.db_link.specs.Among.{isAmong, staysAmong}
+
+-- ---- whether a creation number is among the first n
+module _ (id : MicroId) (n i : ℕ) (ids : List MicroId) where
+  pub among-here : (z : MicroId) → i < n → n ≤ length ids → getD ids i z .0 ≡ id .0 → isAmong (rest n i ids) id ≡ true
+  unfolding any
+  among-here z h k e = rw (rest-step n i ids z, eq-eqb _ _ e)
+
+  pub among-next : (z : MicroId) → i < n → n ≤ length ids → getD ids i z .0 ≢ id .0 → isAmong (rest n (i + 1) ids) id ≡ isAmong (rest n i ids) id
+  unfolding any
+  among-next z h k e = rw (rest-step n i ids z, ne-eqb _ _ e)
+
+  pub among-end : n ≤ i → isAmong (rest n i ids) id ≡ false
+  unfolding any
+  among-end h = rw (rest-end n i ids)
+
+-- ---- whether a link stays
+module _ (lambda floor t : Float) (ids : List MicroId) (l : Link) where
+  pub both-held :
+      (f : Float) (b : Bool) → isAmong ids (l .lo) ≡ true → isAmong ids (l .hi) ≡ true → f ≡ fadedLink lambda t l → lt f floor ≡ b →
+      not b ≡ staysAmong lambda floor t ids l
+  both-held f b x y e c = rw (x, y, ← e, c)
+
+  pub lost-hi : isAmong ids (l .lo) ≡ true → isAmong ids (l .hi) ≡ false → false ≡ staysAmong lambda floor t ids l
+  lost-hi x y = rw (x, y)
+
+  pub lost-lo : isAmong ids (l .lo) ≡ false → false ≡ staysAmong lambda floor t ids l
+  lost-lo x = rw x
+
+-- ---- what f says of the link of k's ends
+module _ (f : Link → Float) (k : Link) (n i : ℕ) (ls : List Link) where
+  pub link-here : (z : Link) → i < n → n ≤ length ls → sameEnds (getD ls i z) k ≡ true → ofLink f k (rest n i ls) ≡ f (getD ls i z)
+  unfolding ofLink
+  link-here z h g e = rw (rest-step n i ls z, e)
+
+  pub link-next : (z : Link) → i < n → n ≤ length ls → sameEnds (getD ls i z) k ≡ false → ofLink f k (rest n (i + 1) ls) ≡ ofLink f k (rest n i ls)
+  unfolding ofLink
+  link-next z h g e = rw (rest-step n i ls z, e)
+
+  pub link-end : n ≤ i → ofLink f k (rest n i ls) ≡ nought
+  unfolding ofLink
+  link-end h = rw (rest-end n i ls)

@@ -1,0 +1,51 @@
+-- `connectivity` meets its contract. Assumes nothing.
+use mathlib.Core.Path.{refl, sym, _∙_}
+use borrow.Author.Tests.{eq-eqb, ne-eqb}
+use borrow.Author.Needs.{needs}
+use Rattle.db_link.proofs.between.connectivity.Statement.{statement}
+use Rattle.db_link.proofs.between.connectivity.Tie as tie
+
+is-among-requires : tie.Need-is-among-requires
+is-among-requires c κs = search needs
+
+is-among-requires-2 : tie.Need-is-among-requires-2
+is-among-requires-2 c κs = search needs
+
+density-requires : tie.Need-density-requires
+density-requires c κs = search needs
+
+returns : tie.Need-returns
+returns c =
+    let a = c .before .before .before .before .before .before .before .before .args in
+    let one =
+    sym (c .before .before .before .before .before .before .before .is-among .ensures) ∙ c .before .before .before .before .before .before .if1 .taken in
+    let other = sym (c .before .before .before .before .before .is-among2 .ensures) ∙ c .before .before .before .before .if2 .taken in
+    rw (one, other, ne-eqb (a .a .0) (a .b .0) (c .before .if3 .taken), ← c .density .ensures) refl
+
+returns-2 : tie.Need-returns-2
+returns-2 c =
+    let a = c .before .before .before .before .before .before .before .args in
+    let one = sym (c .before .before .before .before .before .before .is-among .ensures) ∙ c .before .before .before .before .before .if1 .taken in
+    let other = sym (c .before .before .before .before .is-among2 .ensures) ∙ c .before .before .before .if2 .taken in
+    rw (one, other, eq-eqb (a .a .0) (a .b .0) (c .if3 .left)) refl
+
+returns-3 : tie.Need-returns-3
+returns-3 c =
+    let one = sym (c .before .before .before .is-among .ensures) ∙ c .before .before .if1 .taken in
+    let other = sym (c .before .is-among2 .ensures) ∙ c .if2 .left in
+    rw (one, other) refl
+
+returns-4 : tie.Need-returns-4
+returns-4 c = rw (sym (c .before .is-among .ensures) ∙ c .if1 .left) refl
+
+pub connectivity-spec : {M : Type 1} → statement M
+connectivity-spec =
+    tie.close
+    (tie.spec
+    is-among-requires
+    is-among-requires-2
+    density-requires
+    returns
+    returns-2
+    returns-3
+    returns-4)

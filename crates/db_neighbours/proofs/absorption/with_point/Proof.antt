@@ -1,0 +1,131 @@
+-- `with_point` meets its contract. Assumes nothing.
+use Prim.Native.Nat.{_-_}
+use native.Mathlib.Omega.{arith}
+use mathlib.Core.Path.{_≡_, sym, _∙_}
+use mathlib.Core.Logic.{⊎-elim}
+use lib.ListN.{length, take, length-map}
+use Rattle.model.specs.DbInsert.{absorbs}
+use Rattle.db_neighbours.specs.Laws.Absorbing.{Absorbing, absorbing-starts, absorbing-takes, absorbing-skips, absorbing-ends}
+use Rattle.db_neighbours.proofs.Points.{born-placed, full-placed, absorbed-placed}
+use borrow.Author.Needs.{needs}
+use Rattle.db_neighbours.proofs.absorption.with_point.Statement.{statement}
+use Rattle.db_neighbours.proofs.absorption.with_point.Tie as tie
+
+abbrev Inv-loop : tie.InvT-loop
+Inv-loop n x dim r lambda t micros₀ held count next ds r2 i₀ micros i = Absorbing r2 (absorbs lambda t (take dim x)) held ds micros₀ micros i
+
+abbrev μ-loop : tie.MeasureT-loop
+μ-loop n x dim r lambda t micros₀ held count next ds r2 i₀ micros i = held - i
+
+-- the places of the scan's distances
+distances-room : (c : tie.Start Inv-loop μ-loop) → length (c .args .scan .distances) ≡ 64
+distances-room c = sym (length-map (c .args .scan .distances) _) ∙ c .good .1 .1 .1 .0 .1 .1 .0 .1 .0 .1
+
+cut-requires : tie.Need-cut-requires Inv-loop μ-loop
+cut-requires c κs = search needs
+
+newborn-requires : tie.Need-newborn-requires Inv-loop μ-loop
+newborn-requires c κs = search needs
+
+mul-micros : tie.Need-mul-micros Inv-loop μ-loop
+mul-micros c = search needs
+
+array-set-from-micros : tie.Need-array-set-from-micros Inv-loop μ-loop
+array-set-from-micros c = search needs
+
+add-count : tie.Need-add-count Inv-loop μ-loop
+add-count c = search needs
+
+wrapping-add-u64-requires : tie.Need-wrapping-add-u64-requires Inv-loop μ-loop
+wrapping-add-u64-requires c κs = search needs
+
+loop-holds : tie.Need-loop-holds Inv-loop μ-loop
+loop-holds c =
+    let e = c .before .before .before .before in
+    absorbing-starts _ _ (c .before .before .before .cut .result) _ (e .args .t1) (omega (arith, c .before .before .before .cut .ensures))
+    (distances-room e) (omega arith)
+
+mul-if3 : tie.Need-mul-if3 Inv-loop μ-loop
+mul-if3 c = search needs
+
+array-read-if3 : tie.Need-array-read-if3 Inv-loop μ-loop
+array-read-if3 c = search needs
+
+mul-m : tie.Need-mul-m Inv-loop μ-loop
+mul-m c = search needs
+
+array-copy-out-m : tie.Need-array-copy-out-m Inv-loop μ-loop
+array-copy-out-m c = search needs
+
+absorbed-requires : tie.Need-absorbed-requires Inv-loop μ-loop
+absorbed-requires c κs = search needs
+
+mul-micros-2 : tie.Need-mul-micros-2 Inv-loop μ-loop
+mul-micros-2 c = search needs
+
+array-set-from-micros-2 : tie.Need-array-set-from-micros-2 Inv-loop μ-loop
+array-set-from-micros-2 c = search needs
+
+add-i : tie.Need-add-i Inv-loop μ-loop
+add-i c = search needs
+
+loop-less : tie.Need-loop-less Inv-loop μ-loop
+loop-less c = search needs
+
+loop-again : tie.Need-loop-again Inv-loop μ-loop
+loop-again c =
+    let k = c .before .before .loop in
+    let h = c .before .loop-test .taken in
+    ⊎-elim (λ w. rw (w .3) (absorbing-takes (k .inv) _ (w .2 .result) h (w .2 .ensures) (w .0 .taken)))
+    (λ w. rw (w .1) (absorbing-skips (k .inv) h (w .0 .left))) (c .if3 .came)
+
+returns : tie.Need-returns Inv-loop μ-loop
+returns c =
+    let a = c .before .before .before .before .before .before .args in
+    let n = c .before .before .before .before .before .cut in
+    born-placed (a .scan) (a .r) (a .lambda) (a .t) (a .next-id) (take (a .dim) (a .x)) (a .n) (a .t1) (n .result) (n .ensures) (omega arith)
+    (c .before .before .before .if1 .taken) (c .before .before .if2 .taken) (c .before .newborn .result) (c .before .newborn .ensures)
+    (c .«wrapping-add-u64» .result) (c .«wrapping-add-u64» .ensures)
+
+returns-2 : tie.Need-returns-2 Inv-loop μ-loop
+returns-2 c =
+    let a = c .before .before .before .before .args in
+    let n = c .before .before .before .cut in
+    full-placed (a .scan) (a .r) (a .lambda) (a .t) (a .next-id) (take (a .dim) (a .x)) (a .n) (a .t1) (n .result) (n .ensures) (omega arith)
+    (c .before .if1 .taken) (c .if2 .left)
+
+returns-3 : tie.Need-returns-3 Inv-loop μ-loop
+returns-3 c =
+    let a = c .before .before .before .before .before .before .args in
+    let n = c .before .before .before .before .before .cut in
+    let k = c .before .loop in
+    absorbed-placed (a .scan) (a .r) (a .lambda) (a .t) (a .next-id) (take (a .dim) (a .x)) (a .n) (a .t1) (n .result) (n .ensures) (omega arith)
+    (distances-room (c .before .before .before .before .before .before)) (c .before .before .before .if1 .left) (k .micros) (k .inv .size)
+    (absorbing-ends (k .inv) (c .loop-test .left))
+
+pub with-point-spec : {M : Type 1} → statement M
+with-point-spec =
+    tie.close
+    (tie.spec
+    Inv-loop
+    μ-loop
+    cut-requires
+    newborn-requires
+    mul-micros
+    array-set-from-micros
+    add-count
+    wrapping-add-u64-requires
+    loop-holds
+    mul-if3
+    array-read-if3
+    mul-m
+    array-copy-out-m
+    absorbed-requires
+    mul-micros-2
+    array-set-from-micros-2
+    add-i
+    loop-less
+    loop-again
+    returns
+    returns-2
+    returns-3)

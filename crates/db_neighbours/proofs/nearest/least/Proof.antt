@@ -1,0 +1,88 @@
+-- `least` meets its contract. Assumes nothing.
+use Prim.Native.Nat.{_+_, _≤_, _-_}
+use mathlib.Core.Path.{_≡_, sym, ap, _∙_}
+use mathlib.Core.List.{foldl}
+use native.Mathlib.Omega.{arith}
+use lib.Ieee.{Float, nan}
+use lib.ListN.{take}
+use Rattle.float.specs.Order.{smaller}
+use Rattle.lists.specs.Rest.{rest}
+use Rattle.lists.specs.Laws.Loops.{fold-step, fold-end}
+use Rattle.drift.specs.declared.Nearest.the-variants.{Distance}
+use Rattle.model.specs.DbInsert.{leastOf}
+use Rattle.db_neighbours.proofs.Turns.{least-none, least-start}
+use borrow.Author.Needs.{needs}
+use Rattle.db_neighbours.proofs.nearest.least.Statement.{statement}
+use Rattle.db_neighbours.proofs.nearest.least.Tie as tie
+
+abbrev Inv-loop : tie.InvT-loop
+Inv-loop n ds k best₀ i₀ best i = (i ≤ k) × (k ≤ 64) × (Distance (foldl smaller best (rest k i ds)) ≡ leastOf (take n ds))
+
+abbrev μ-loop : tie.MeasureT-loop
+μ-loop n ds k best₀ i₀ best i = k - i
+
+cut-requires : tie.Need-cut-requires Inv-loop μ-loop
+cut-requires c κs = search needs
+
+returns : tie.Need-returns Inv-loop μ-loop
+returns c =
+    let a = c .before .before .args in
+    sym (least-none (a .n) (c .before .cut .result) (a .t1) (c .before .cut .ensures) (omega arith) (omega arith))
+
+array-read-best : tie.Need-array-read-best Inv-loop μ-loop
+array-read-best c = search needs
+
+loop-holds : tie.Need-loop-holds Inv-loop μ-loop
+loop-holds c =
+    let a = c .before .before .args in
+    (omega arith, omega arith, least-start (a .n) (c .before .cut .result) (a .t1) (c .before .cut .ensures) (omega arith) (omega arith))
+
+mul-min : tie.Need-mul-min Inv-loop μ-loop
+mul-min c = search needs
+
+array-read-min : tie.Need-array-read-min Inv-loop μ-loop
+array-read-min c = search needs
+
+min-requires : tie.Need-min-requires Inv-loop μ-loop
+min-requires c κs = search needs
+
+add-i : tie.Need-add-i Inv-loop μ-loop
+add-i c = search needs
+
+loop-less : tie.Need-loop-less Inv-loop μ-loop
+loop-less c = search needs
+
+loop-again : tie.Need-loop-again Inv-loop μ-loop
+loop-again c =
+    let k = c .before .before .loop in
+    let n = c .before .before .before .before .cut .result in
+    let ds = c .before .before .before .before .before .args .t1 in (
+      omega arith,
+      omega arith,
+      ap (λ (b : Float). Distance (foldl smaller b (rest n (k .i + 1) ds))) (c .min .ensures)
+          ∙ ap Distance (sym (fold-step smaller n (k .i) ds (k .best) nan (omega arith) (omega arith))) ∙ k .inv .2,
+    )
+
+returns-2 : tie.Need-returns-2 Inv-loop μ-loop
+returns-2 c =
+    let k = c .before .loop in
+    ap Distance (sym (fold-end smaller (c .before .before .before .cut .result) (k .i) (c .before .before .before .before .args .t1) (k .best)
+    (omega arith))) ∙ k .inv .2
+
+pub least-spec : {M : Type 1} → statement M
+least-spec =
+    tie.close
+    (tie.spec
+    Inv-loop
+    μ-loop
+    cut-requires
+    returns
+    array-read-best
+    loop-holds
+    mul-min
+    array-read-min
+    min-requires
+    add-i
+    loop-less
+    loop-again
+    returns-2)

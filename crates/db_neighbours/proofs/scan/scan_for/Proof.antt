@@ -1,0 +1,140 @@
+-- `scan_for` meets its contract. Assumes nothing.
+use Prim.Native.Nat.{_≤_, _<_, _-_}
+use mathlib.Core.Path.{_≡_, refl, sym, ap, _∙_}
+use mathlib.Core.List.{List, _++_, map, map-map}
+use mathlib.Core.Logic.{⊎-elim}
+use native.Mathlib.Omega.{arith}
+use lib.Ieee.{Float, le}
+use lib.ListN.{length, take, length-set}
+use Rattle.float.specs.Rounded.{_⊗_}
+use Rattle.lists.specs.Retain.{retain}
+use Rattle.lists.specs.Laws.Rest.{cut-start}
+use Rattle.lists.specs.Rest.{rest}
+use Rattle.model.specs.declared.micro.DbMicro.{DbMicro}
+use Rattle.model.specs.Fading.{distanceTo}
+use Rattle.model.specs.DbInsert.{idOf}
+use Rattle.db_micro.specs.Held.{cutTo, held}
+use Rattle.db_neighbours.specs.Laws.Views.{isNear, neighbours-view}
+use Rattle.lists.specs.Laws.Counted.{Gathered, gather-starts, gather-goes, gather-ends}
+use Rattle.db_neighbours.proofs.Turns.{filter-take, filter-skip, filter-end}
+use Rattle.db_neighbours.proofs.Points.{scanned}
+use borrow.Author.Needs.{needs}
+use Rattle.db_neighbours.proofs.scan.scan_for.Statement.{statement}
+use Rattle.db_neighbours.proofs.scan.scan_for.Tie as tie
+
+abbrev Inv-loop : tie.InvT-loop
+Inv-loop n x dim r micros end r2 distances₀ ids₀ k₀ i₀ distances ids k i =
+    Gathered (λ (m : DbMicro). distanceTo (take dim x) (cutTo dim m .cf)) 64 n end micros distances i
+    × (k ≤ i) × (length ids ≡ 64)
+    × (take k ids ++ map idOf (retain (isNear r (take dim x) dim) (rest end i micros)) ≡ map idOf (retain (isNear r (take dim x) dim) (take n micros)))
+
+abbrev μ-loop : tie.MeasureT-loop
+μ-loop n x dim r micros end r2 distances₀ ids₀ k₀ i₀ distances ids k i = end - i
+
+cut-requires : tie.Need-cut-requires Inv-loop μ-loop
+cut-requires c κs = search needs
+
+loop-holds : tie.Need-loop-holds Inv-loop μ-loop
+loop-holds c =
+    let a = c .before .args in
+    let e = c .cut .ensures in (
+      gather-starts e (omega arith) refl,
+      omega arith,
+      refl,
+      ap (λ (l : List DbMicro). map idOf (retain (isNear (a .r) (take (a .dim) (a .x)) (a .dim)) l)) (cut-start _ (a .n) 64 (a .t1) e (omega arith)),
+    )
+
+mul-m : tie.Need-mul-m Inv-loop μ-loop
+mul-m c = search needs
+
+array-copy-out-m : tie.Need-array-copy-out-m Inv-loop μ-loop
+array-copy-out-m c = search needs
+
+sq-euclidean-requires : tie.Need-sq-euclidean-requires Inv-loop μ-loop
+sq-euclidean-requires c κs = search needs
+
+mul-distances : tie.Need-mul-distances Inv-loop μ-loop
+mul-distances c = search needs
+
+array-write-distances : tie.Need-array-write-distances Inv-loop μ-loop
+array-write-distances c = search needs
+
+mul-ids : tie.Need-mul-ids Inv-loop μ-loop
+mul-ids c = search needs
+
+array-set-from-ids : tie.Need-array-set-from-ids Inv-loop μ-loop
+array-set-from-ids c = search needs
+
+add-k : tie.Need-add-k Inv-loop μ-loop
+add-k c = search needs
+
+add-i : tie.Need-add-i Inv-loop μ-loop
+add-i c = search needs
+
+loop-less : tie.Need-loop-less Inv-loop μ-loop
+loop-less c = search needs
+
+loop-again : tie.Need-loop-again Inv-loop μ-loop
+loop-again c =
+    let k = c .before .before .before .before .before .before .loop in
+    let a = c .before .before .before .before .before .before .before .before .args in
+    let n = c .before .before .before .before .before .before .before .cut .result in
+    let q = k .inv in
+    let h : k .i < n = c .before .before .before .before .before .loop-test .taken in
+    let fits : n ≤ length (a .t1) = omega (arith, q .0 .cut) in
+    let measured = c .before .«sq-euclidean» .ensures in
+    let p = isNear (a .r) (take (a .dim) (a .x)) (a .dim) in
+    let near = ap (λ (v : Float). le v (a .r ⊗ a .r)) measured in
+    ⊎-elim
+    (λ w. rw (w .2, w .3) (
+      gather-goes (q .0) _ h measured,
+      omega arith,
+      simp length-set (q .2),
+      filter-take idOf p n (k .i) (a .t1) _ h fits (k .k) (k .ids) _ (omega (arith, q .0 .cut)) refl (sym near ∙ w .0 .taken) ∙ q .3,
+    ))
+    (λ w. rw (w .1, w .2) (
+      gather-goes (q .0) _ h measured,
+      omega arith,
+      q .2,
+      filter-skip idOf p n (k .i) (a .t1) _ h fits (k .k) (k .ids)
+          (sym near ∙ w .0 .left) ∙ q .3,
+    ))
+    (c .if1 .came)
+
+least-requires : tie.Need-least-requires Inv-loop μ-loop
+least-requires c κs = search needs
+
+returns : tie.Need-returns Inv-loop μ-loop
+returns c =
+    let k = c .before .before .loop in
+    let a = c .before .before .before .before .args in
+    let x = take (a .dim) (a .x) in
+    let few : k .k ≤ length (k .ids) = omega (arith, k .inv .0 .most, k .inv .0 .cut, k .inv .1, k .inv .2) in
+    scanned (a .r) x (held (a .dim) (a .n) (a .t1)) (a .n) _
+    (gather-ends (k .inv .0) (omega arith) ∙ sym (map-map (λ (m : DbMicro). distanceTo x (m .cf)) (cutTo (a .dim)) (take (a .n) (a .t1))))
+    (c .least .ensures)
+    (sym (filter-end idOf (isNear (a .r) x (a .dim)) (c .before .before .before .cut .result) (k .i) (a .t1) (take (k .k) (k .ids)) (omega arith))
+    ∙ k .inv .3 ∙ neighbours-view (a .r) x (a .dim) (take (a .n) (a .t1)))
+    few
+
+pub scan-for-spec : {M : Type 1} → statement M
+scan-for-spec =
+    tie.close
+    (tie.spec
+    Inv-loop
+    μ-loop
+    cut-requires
+    loop-holds
+    mul-m
+    array-copy-out-m
+    sq-euclidean-requires
+    mul-distances
+    array-write-distances
+    mul-ids
+    array-set-from-ids
+    add-k
+    add-i
+    loop-less
+    loop-again
+    least-requires
+    returns)

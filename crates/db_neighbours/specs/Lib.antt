@@ -1,0 +1,4 @@
+pub mod Near
+pub mod Placing
+pub mod Scanned
+pub mod Laws

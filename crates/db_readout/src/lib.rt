@@ -1,0 +1,94 @@
+// What a DBSTREAM reads out. Apart from the stream, since a check grows with the functions over so large a struct.
+use dbstream::DbStream;
+use model::Connectivity;
+use model::MicroId;
+use model::Prediction;
+use model::ReadOut;
+ghost use mathlib.Core.Path.{_≡_};
+ghost use Rattle.model.specs.Answers.{predictionSaid, connectivitySaid};
+ghost use Rattle.model.specs.ReadOut.{clustersIn};
+ghost use Rattle.model.specs.DbCluster.{connectivityOf};
+ghost use Rattle.model.specs.Dbstream.{predictOf, labelsReadOf, statisticsOf};
+ghost use Rattle.readout.specs.Told.{labelsTold, statisticsTold};
+ghost use Rattle.dbstream.specs.View.{view};
+
+// The labels of the last cluster, into a lent slice; none after an insert.
+pub fn labels(stream: DbStream, out: &mut [i64]) -> ReadOut
+    ensures { λ r. ⌜ labelsTold r (now (out .exit)) ≡ labelsReadOf (view stream) (now (out .entry)) ⌝ }
+{
+    let labels = stream.labels;
+    readout::read_labels(labels, stream.label_count, out)
+}
+
+// How many families these labels name.
+pub fn n_clusters(stream: DbStream) -> usize
+    ensures { λ r. ⌜ r ≡ clustersIn (view stream .labels) ⌝ }
+{
+    let labels = stream.labels;
+    readout::n_clusters(labels, stream.label_count)
+}
+
+// The label of the nearest micro-cluster, if it is no farther than r.
+pub fn try_predict(stream: DbStream, x: &[f64]) -> Prediction
+    ensures { λ r. ⌜ predictionSaid r ≡ predictOf (view stream) (now (x .entry)) ⌝ }
+{
+    let micros = stream.micros;
+    let labels = stream.labels;
+    let dim = stream.params.settings.dim;
+    db_micro::predict(
+        micros,
+        stream.count,
+        labels,
+        stream.label_count,
+        stream.params.settings.r,
+        dim,
+        x,
+    )
+}
+
+// The means one after another, the faded weights and the radii, into lent slices.
+pub fn micro_stats(
+    stream: DbStream,
+    centres: &mut [f64],
+    weights: &mut [f64],
+    radii: &mut [f64],
+) -> ReadOut
+    ensures { λ r. ⌜ statisticsTold r (now (centres .exit)) (now (weights .exit)) (now (radii .exit)) ≡ statisticsOf (view stream) (now (centres .entry)) (now (weights .entry)) (now (radii .entry)) ⌝ }
+{
+    let micros = stream.micros;
+    let lambda = stream.params.settings.lambda;
+    let dim = stream.params.settings.dim;
+    db_micro::statistics(
+        micros,
+        stream.count,
+        lambda,
+        stream.t,
+        dim,
+        centres,
+        weights,
+        radii,
+    )
+}
+
+// The faded link of two live micro-clusters over the mean of their stored weights.
+pub fn connectivity(stream: DbStream, a: MicroId, b: MicroId) -> Connectivity
+    ensures { λ r. ⌜ connectivitySaid r ≡ connectivityOf (view stream) a b ⌝ }
+{
+    let n = stream.count;
+    let micros = stream.micros;
+    let ids = db_micro::ids_of(micros, n);
+    let mean = db_micro::mean_weight(micros, n, a, b);
+    let links = stream.links;
+    let lambda = stream.params.settings.lambda;
+    db_link::connectivity(
+        links,
+        stream.link_count,
+        ids,
+        n,
+        a,
+        b,
+        mean,
+        lambda,
+        stream.t,
+    )
+}

@@ -1,0 +1,27 @@
+use Prim.Native.Nat.{min}
+use Rattle.drift.specs.Monitor as drift
+use Rattle.dbstream.specs.View.{withDim}
+use Rattle.dbstream.proofs.Openings.{fresh-is}
+use borrow.Author.Needs.{needs}
+use Rattle.dbstream.proofs.stream.DbStream.fresh.Statement.{statement}
+use Rattle.dbstream.proofs.stream.DbStream.fresh.Tie as tie
+
+new-requires : tie.Need-new-requires
+new-requires c κs = search needs
+
+t-gap-requires : tie.Need-t-gap-requires
+t-gap-requires c κs = search needs
+
+floor-requires : tie.Need-floor-requires
+floor-requires c κs = search needs
+
+new-requires-2 : tie.Need-new-requires-2
+new-requires-2 c κs = search needs
+
+returns : tie.Need-returns
+returns c =
+    let a = c .before .before .before .before .args in
+    fresh-is (withDim (a .settings) (min (a .settings .dim) 15)) (c .before .before .«t-gap» .result) (c .before .floor .result) (drift.view (c .new2 .result)) (c .before .before .«t-gap» .ensures) (c .before .floor .ensures) (c .new2 .ensures)
+
+pub fresh-spec : {M : Type 1} → statement M
+fresh-spec = tie.close (tie.spec new-requires t-gap-requires floor-requires new-requires-2 returns)

@@ -1,0 +1,38 @@
+use mathlib.Core.Path.{sym, _∙_}
+use Rattle.model.specs.Stream.{asked}
+use Rattle.dbstream.specs.View.{view}
+use Rattle.dbstream.proofs.Openings.{opens, stays-shut, both}
+use borrow.Author.Needs.{needs}
+use Rattle.dbstream.proofs.stream.DbStream.new.Statement.{statement}
+use Rattle.dbstream.proofs.stream.DbStream.new.Tie as tie
+
+asked-requires : tie.Need-asked-requires
+asked-requires c κs = search needs
+
+is-open-requires : tie.Need-is-open-requires
+is-open-requires c κs = search needs
+
+fresh-requires : tie.Need-fresh-requires
+fresh-requires c κs = search needs
+
+returns : tie.Need-returns
+unfolding asked
+returns c =
+    let a = c .before .before .before .before .args in
+    both (a .settings) _
+    (opens (a .settings) (c .before .before .before .asked .result) (c .before .before .before .asked .ensures) (view (c .fresh .result)) (sym (c .before .before .«is-open» .ensures) ∙ c .before .if1 .taken) (c .fresh .ensures))
+
+fresh-requires-2 : tie.Need-fresh-requires-2
+fresh-requires-2 c κs = search needs
+
+returns-2 : tie.Need-returns-2
+unfolding asked
+returns-2 c =
+    let a = c .before .before .before .before .args in
+    both (a .settings) _
+    (stays-shut (a .settings) (c .before .before .before .asked .result) (c .before .before .before .asked .ensures) (view (c .fresh2 .result)) (sym (c .before .before .«is-open» .ensures) ∙ c .before .if1 .left) (c .fresh2 .ensures))
+
+pub new-spec : {M : Type 1} → statement M
+new-spec =
+    tie.close
+    (tie.spec asked-requires is-open-requires fresh-requires returns fresh-requires-2 returns-2)

@@ -1,0 +1,117 @@
+-- `pair_row` meets its contract. Assumes nothing.
+use Prim.Native.Nat.{_+_, _-_, _<_}
+use mathlib.Core.List.{_++_}
+use mathlib.Core.Logic.{⊎-elim}
+use native.Mathlib.Omega.{arith}
+use lib.ListN.{length, take}
+use borrow.Author.Needs.{needs}
+use Rattle.union_find.specs.Pairs.{pairsOf}
+use Rattle.den_pool.specs.Held.{seen}
+use Rattle.den_grouping.specs.Group.{rowAt}
+use Rattle.den_grouping.proofs.Rows.{Rowed, row-room, row-close, row-far, row-end, row-from}
+use Rattle.den_grouping.proofs.pairs.pair_row.Statement.{statement}
+use Rattle.den_grouping.proofs.pairs.pair_row.Tie as tie
+
+abbrev Inv-loop : tie.InvT-loop
+Inv-loop n i dim eps2 a₀ b₀ count pool centre k₀ j₀ a b k j =
+    Rowed eps2 i (take dim centre) dim n pool (pairsOf (take count a₀) (take count b₀) ++ rowAt eps2 i (seen dim n pool))
+    (count + length (rowAt eps2 i (seen dim n pool))) a b k j
+
+abbrev μ-loop : tie.MeasureT-loop
+μ-loop n i dim eps2 a₀ b₀ count pool centre k₀ j₀ a b k j = n - j
+
+-- a close pair has a place in the arrays
+room : (c : tie.Then1 Inv-loop μ-loop) → c .before .before .before .before .before .before .loop .k < 2016
+room c =
+    let a = c .before .before .before .before .before .before .before .before .before .before .args in
+    let l = c .before .before .before .before .before .before .loop in
+    let v = c .before .sq-euclidean in
+    row-room (a .eps2) (a .i) _ (a .dim) (a .n) (a .t1) _ _ (l .a) (l .b) (l .k) (l .j) (l .inv)
+    (c .before .before .before .before .before .loop-test .taken) (omega arith) _ (v .result) (v .ensures) (c .if1 .taken)
+
+mul-m : tie.Need-mul-m Inv-loop μ-loop
+mul-m c = search needs
+
+array-copy-out-m : tie.Need-array-copy-out-m Inv-loop μ-loop
+array-copy-out-m c = search needs
+
+add-j : tie.Need-add-j Inv-loop μ-loop
+add-j c = search needs
+
+loop-holds : tie.Need-loop-holds Inv-loop μ-loop
+loop-holds c =
+    let e = c .before .before .before in
+    let a = e .args in
+    row-from (a .eps2) (a .dim) (a .n) (a .i) (a .t1) _ (e .pre .0) (omega arith) (a .a .now) (a .b .now) (a .count) (e .pre .3) (e .pre .4) (e .pre .2)
+
+mul-other-micro : tie.Need-mul-other-micro Inv-loop μ-loop
+mul-other-micro c = search needs
+
+array-copy-out-other-micro : tie.Need-array-copy-out-other-micro Inv-loop μ-loop
+array-copy-out-other-micro c = search needs
+
+sq-euclidean-requires : tie.Need-sq-euclidean-requires Inv-loop μ-loop
+sq-euclidean-requires c κs = search needs
+
+mul-a : tie.Need-mul-a Inv-loop μ-loop
+mul-a c = omega (arith, room c)
+
+element-write-a : tie.Need-element-write-a Inv-loop μ-loop
+element-write-a c = omega (arith, room c)
+
+mul-b : tie.Need-mul-b Inv-loop μ-loop
+mul-b c = omega (arith, room c)
+
+element-write-b : tie.Need-element-write-b Inv-loop μ-loop
+element-write-b c = omega (arith, room c)
+
+add-k : tie.Need-add-k Inv-loop μ-loop
+add-k c = omega (arith, room c)
+
+add-j-2 : tie.Need-add-j-2 Inv-loop μ-loop
+add-j-2 c = search needs
+
+loop-less : tie.Need-loop-less Inv-loop μ-loop
+loop-less c = search needs
+
+loop-again : tie.Need-loop-again Inv-loop μ-loop
+loop-again c =
+    let a = c .before .before .before .before .before .before .before .before .before .before .args in
+    let l = c .before .before .before .before .before .before .loop in
+    let v = c .before .sq-euclidean in
+    let h = c .before .before .before .before .before .loop-test .taken in
+    ⊎-elim
+    (λ w. rw (w .1, w .2, w .3) (row-close (a .eps2) (a .i) _ (a .dim) (a .n) (a .t1) _ _ (l .a) (l .b) (l .k) (l .j) (l .inv) h (omega arith) _
+    (v .result) (v .ensures) (w .0 .taken)))
+    (λ w. rw (w .1, w .2, w .3) (row-far (a .eps2) (a .i) _ (a .dim) (a .n) (a .t1) _ _ (l .a) (l .b) (l .k) (l .j) (l .inv) h (omega arith) _
+    (v .result) (v .ensures) (w .0 .left)))
+    (c .if1 .came)
+
+returns : tie.Need-returns Inv-loop μ-loop
+returns c =
+    let a = c .before .before .before .before .before .args in
+    let l = c .before .loop in
+    row-end (a .eps2) (a .i) _ (a .dim) (a .n) (a .t1) _ _ (l .a) (l .b) (l .k) (l .j) (l .inv) (c .loop-test .left)
+
+pub pair-row-spec : {M : Type 1} → statement M
+pair-row-spec =
+    tie.close
+    (tie.spec
+    Inv-loop
+    μ-loop
+    mul-m
+    array-copy-out-m
+    add-j
+    loop-holds
+    mul-other-micro
+    array-copy-out-other-micro
+    sq-euclidean-requires
+    mul-a
+    element-write-a
+    mul-b
+    element-write-b
+    add-k
+    add-j-2
+    loop-less
+    loop-again
+    returns)

@@ -1,0 +1,53 @@
+// Which groups count, and the labels of their members.
+use crate::pairs::PAIRS;
+use crate::pairs::close_pairs;
+use feature::MAX_DIM;
+use model::DenParams;
+use model::MICROS;
+use model::Micro;
+ghost use Prim.Native.Nat.{_≤_, _<_, min, ℕ};
+ghost use mathlib.Core.Path.{_≡_};
+ghost use mathlib.Core.List.{map};
+ghost use lib.Ieee.{le, nan};
+ghost use lib.ListN.{take, getD};
+ghost use Rattle.feature.specs.Feature.{maxDim};
+ghost use Rattle.model.specs.Limits.{microsMost};
+ghost use Rattle.den_pool.specs.Held.{seen};
+ghost use Rattle.den_grouping.specs.Group.{labelsIn};
+
+// Which places' groups reach mu, by the sum at each place's root.
+fn reaching(roots: [usize; MICROS], sums: [f64; MICROS], n: usize, mu: f64) -> [bool; MICROS]
+    requires { ⌜ (n ≤ microsMost) × ((i : ℕ) → i < microsMost → getD roots i 0 < microsMost) ⌝ }
+    ensures { λ r. ⌜ take n r ≡ map (λ (v : ℕ). le mu (getD sums v nan)) (take n roots) ⌝ }
+{
+    let mut counts = [false; MICROS];
+    let mut i: usize = 0;
+    while i < n {
+        let v = roots[i];
+        counts[i] = mu <= sums[v];
+        i += 1;
+    }
+    counts
+}
+
+// The labels of the first n at the clock t.
+pub fn group_labels(pool: [Micro; MICROS], n: usize, params: DenParams, t: f64) -> [i64; MICROS]
+    ensures { λ r. ⌜ take n r ≡ labelsIn params t (seen (min (params .settings .dim) maxDim) n pool) ⌝ }
+{
+    let end = lists::cut(n, MICROS);
+    let mut a = [0usize; PAIRS];
+    let mut b = [0usize; PAIRS];
+    let k = close_pairs(
+        pool,
+        end,
+        lists::cut(params.settings.dim, MAX_DIM),
+        params.eps2,
+        &mut a,
+        &mut b,
+    );
+    let roots = union_find::roots(&a[..k], &b[..k], end);
+    let weights = den_pool::faded_weights(pool, end, params.settings.lambda, t);
+    let sums = labels::sums(roots, weights, end);
+    let counts = reaching(roots, sums, end, params.settings.mu);
+    labels::labels(roots, counts, end)
+}

@@ -1,0 +1,3 @@
+pub mod Pools
+pub mod Placing
+pub mod Laws

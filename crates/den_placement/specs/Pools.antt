@@ -1,0 +1,34 @@
+-- The pools of a DenStream, kept in two arrays with a count each. Definitions only.
+use Prim.Native.Nat.{ℕ, _-_, min}
+use mathlib.Core.List.{List}
+use lib.IntN.{ℤ}
+use lib.Ieee.{Float}
+use Rattle.drift.specs.Monitor.{Monitor}
+use Rattle.model.specs.declared.micro.Micro.{Micro}
+use Rattle.model.specs.Limits.{microsMost}
+use Rattle.model.specs.DenState.{Params, Holdings, pooled, State}
+use Rattle.den_pool.specs.Held.{dimOf, settledOf, seen}
+
+-- how many are held: never more than 64 in both pools together
+abbrev pub potentialHeld : (potential : ℕ) → ℕ
+potentialHeld potential = min potential microsMost
+
+abbrev pub outliersHeld : (potential outliers : ℕ) → ℕ
+outliersHeld potential outliers = min outliers (microsMost - potentialHeld potential)
+
+-- what is held in these arrays; and the stream that keeps it
+abbrev pub poolsOf : (dim : ℕ) → (potential : List Micro) → (potentialCount : ℕ) → (outliers : List Micro) → (outlierCount : ℕ) → Holdings
+poolsOf dim potential potentialCount outliers outlierCount =
+    pooled (seen dim (potentialHeld potentialCount) potential) (seen dim (outliersHeld potentialCount outlierCount) outliers)
+
+abbrev pub stateOf :
+    Params → (t : Float) → (potential : List Micro) → (potentialCount : ℕ) → (outliers : List Micro) → (outlierCount : ℕ) →
+    (labels : List ℤ) → Monitor → State
+stateOf p t potential potentialCount outliers outlierCount labels drift =
+    record {
+      params = settledOf p;
+      t = t;
+      held = poolsOf (dimOf p) potential potentialCount outliers outlierCount;
+      labels = labels;
+      drift = drift;
+    }

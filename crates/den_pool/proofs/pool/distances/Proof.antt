@@ -1,0 +1,67 @@
+-- `distances` meets its contract. Assumes nothing.
+use Prim.Native.Nat.{_-_}
+use native.Mathlib.Omega.{arith}
+use lib.ListN.{take}
+use borrow.Author.Needs.{needs}
+use Rattle.den_pool.specs.Held.{distanceIn}
+use Rattle.lists.specs.Laws.Counted.{Gathered, gather-starts, gather-goes, gather-ends}
+use Rattle.den_pool.proofs.pool.distances.Statement.{statement}
+use Rattle.den_pool.proofs.pool.distances.Tie as tie
+
+abbrev Inv-loop : tie.InvT-loop
+Inv-loop n x dim pool k ds₀ i₀ ds i = Gathered (distanceIn dim (take dim x)) 64 n k pool ds i
+
+abbrev μ-loop : tie.MeasureT-loop
+μ-loop n x dim pool k ds₀ i₀ ds i = k - i
+
+cut-requires : tie.Need-cut-requires Inv-loop μ-loop
+cut-requires c κs = search needs
+
+loop-holds : tie.Need-loop-holds Inv-loop μ-loop
+loop-holds c = gather-starts (c .cut .ensures) (omega arith) (search needs)
+
+mul-m : tie.Need-mul-m Inv-loop μ-loop
+mul-m c = search needs
+
+array-copy-out-m : tie.Need-array-copy-out-m Inv-loop μ-loop
+array-copy-out-m c = search needs
+
+sq-euclidean-requires : tie.Need-sq-euclidean-requires Inv-loop μ-loop
+sq-euclidean-requires c κs = search needs
+
+mul-ds : tie.Need-mul-ds Inv-loop μ-loop
+mul-ds c = search needs
+
+array-write-ds : tie.Need-array-write-ds Inv-loop μ-loop
+array-write-ds c = search needs
+
+add-i : tie.Need-add-i Inv-loop μ-loop
+add-i c = search needs
+
+loop-less : tie.Need-loop-less Inv-loop μ-loop
+loop-less c = search needs
+
+loop-again : tie.Need-loop-again Inv-loop μ-loop
+loop-again c =
+    gather-goes (c .before .before .before .before .before .loop .inv) _ (c .before .before .before .before .loop-test .taken) (c .sq-euclidean .ensures)
+
+returns : tie.Need-returns Inv-loop μ-loop
+returns c = gather-ends (c .before .loop .inv) (c .loop-test .left)
+
+pub distances-spec : {M : Type 1} → statement M
+distances-spec =
+    tie.close
+    (tie.spec
+    Inv-loop
+    μ-loop
+    cut-requires
+    loop-holds
+    mul-m
+    array-copy-out-m
+    sq-euclidean-requires
+    mul-ds
+    array-write-ds
+    add-i
+    loop-less
+    loop-again
+    returns)

@@ -1,0 +1,3 @@
+pub mod Held
+pub mod Tried
+pub mod Laws

@@ -1,0 +1,54 @@
+// The trial of a pool's nearest: whether it takes the point.
+use crate::micro::absorbing;
+use crate::micro::newborn;
+use crate::micro::stands;
+use crate::pool::distances;
+use drift::Nearest;
+use feature::MAX_DIM;
+use model::DenParams;
+use model::MICROS;
+use model::Micro;
+use readout::Found;
+ghost use mathlib.Core.Path.{_≡_};
+ghost use lib.ListN.{take};
+ghost use Rattle.den_pool.specs.Held.{dimOf, settledOf, seen};
+ghost use Rattle.den_pool.specs.Tried.{triedOf, trialTold};
+
+pub struct Trial {
+    // The pool's nearest distance, if it has one.
+    pub near: Nearest,
+    // Whether the nearest's copy, which absorbed the point, stands; and its place, and the copy.
+    pub stands: bool,
+    pub place: usize,
+    pub micro: Micro,
+}
+
+// A copy of the nearest of the first n absorbs the point; without a nearest, the point stands alone at place 0.
+pub fn try_merge(
+    pool: [Micro; MICROS],
+    n: usize,
+    params: DenParams,
+    t: f64,
+    x: [f64; MAX_DIM],
+) -> Trial
+    ensures { λ r. ⌜ trialTold (dimOf params) r ≡ triedOf (settledOf params) t (take (dimOf params) x) (seen (dimOf params) n pool) ⌝ }
+{
+    let dim = lists::cut(params.settings.dim, MAX_DIM);
+    let found = readout::nearest(distances(pool, n, x, dim), n);
+    let Found::At { place, dist } = found else {
+        return Trial {
+            near: Nearest::Nothing,
+            stands: false,
+            place: 0,
+            micro: newborn(t, x, dim),
+        };
+    };
+    let m = pool[place];
+    let micro = absorbing(m, params.settings.lambda, t, x, dim);
+    Trial {
+        near: Nearest::Distance(dist),
+        stands: stands(micro, params.eps2),
+        place,
+        micro,
+    }
+}

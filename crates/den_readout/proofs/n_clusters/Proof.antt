@@ -1,0 +1,15 @@
+-- `n_clusters` meets its contract. Assumes nothing.
+use borrow.Author.Needs.{needs}
+use Rattle.denstream.specs.View.{view}
+use Rattle.den_readout.proofs.n_clusters.Statement.{statement}
+use Rattle.den_readout.proofs.n_clusters.Tie as tie
+
+n-clusters-requires : tie.Need-n-clusters-requires
+n-clusters-requires c κs = search needs
+
+returns : tie.Need-returns
+unfolding view
+returns c = c .n-clusters .ensures
+
+pub n-clusters-spec : {M : Type 1} → statement M
+n-clusters-spec = tie.close (tie.spec n-clusters-requires returns)

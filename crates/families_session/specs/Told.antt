@@ -1,7 +1,0 @@
--- What the code's session tells. Definition only.
-use Rattle.dbstream.specs.Stream.{view}
-use Rattle.families_session.specs.declared.Session.{Session}
-use Rattle.families_session.specs.Session as defined
-
-abbrev pub ranTold : Session → defined.Ran
-ranTold r = record { number = r .number; stream = view (r .stream) }

@@ -1,0 +1,12 @@
+-- What follows from the definitions, for proofs.
+pub mod Cutting
+pub mod Opened
+pub mod Compare
+pub mod Ordered
+pub mod Whole
+pub mod Units
+pub mod Bounds
+pub mod Ln
+pub mod Between
+pub mod Computed
+pub mod BelowOne

@@ -1,6 +1,0 @@
-pub mod Walk
-pub mod Passed
-pub mod Walking
-pub mod Factor
-pub mod Pass
-pub mod Passing

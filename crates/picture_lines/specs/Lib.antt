@@ -1,0 +1,5 @@
+pub mod Row
+pub mod Words
+pub mod Plot
+pub mod Picture
+pub mod Laws

@@ -1,4 +1,0 @@
-pub mod Pools
-pub mod Placing
-pub mod PlacingLaws
-pub mod PoolLaws

@@ -1,0 +1,4 @@
+-- What follows from the definitions, for proofs.
+pub mod Nearest
+pub mod Label
+pub mod Seen

@@ -1,0 +1,34 @@
+-- A label by distances that were measured before is document 01's. Assumes nothing.
+use Prim.Native.Nat.{ℕ}
+use mathlib.Core.Path.{_≡_, refl, ap, ap₂, _∙_}
+use mathlib.Core.Bool.{cond}
+use mathlib.Core.List.{List, map}
+use mathlib.Core.Option.{Option, none, some}
+use lib.Dec.{eqb}
+use lib.IntN.{ℤ, negsuc}
+use lib.Ieee.{Float}
+use lib.ListN.{length}
+use Rattle.lists.specs.Laws.Maps.{map-length}
+use Rattle.feature.specs.declared.spherical.Spherical.{Spherical}
+use Rattle.model.specs.Fading.{distanceTo}
+use Rattle.model.specs.Nearest.{Near, nearestOf}
+use Rattle.model.specs.ReadOut.{labelNear, labelFor}
+use Rattle.readout.specs.declared.distances.Found.{Found}
+use Rattle.readout.specs.Found.{foundOf}
+use Rattle.readout.specs.Told.{labelFound, labelAmong}
+use Rattle.readout.specs.Laws.Nearest.{nearest-measured}
+
+module _ (radius2 : Float) (labels : List ℤ) where
+  label-found : (o : Option (Near Spherical)) → labelFound radius2 labels (foundOf o) ≡ labelNear radius2 labels o
+  label-found none = refl
+  label-found (some b) = refl
+
+  pub label-measured :
+      (features : List Spherical) (x distances : List Float) → distances ≡ map (distanceTo x) features →
+      labelAmong radius2 distances labels ≡ labelFor radius2 features labels x
+  unfolding labelAmong labelFor
+  label-measured features x distances e =
+      ap₂ (λ (n : ℕ) (o : Found). cond (eqb (length labels) n) (labelFound radius2 labels o) (negsuc 0))
+      (ap length e ∙ map-length (distanceTo x) features)
+      (nearest-measured (distanceTo x) features distances e)
+      ∙ ap (λ (z : ℤ). cond (eqb (length labels) (length features)) z (negsuc 0)) (label-found (nearestOf (distanceTo x) features))

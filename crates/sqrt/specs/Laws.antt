@@ -1,0 +1,7 @@
+-- What follows from the definitions, for proofs.
+pub mod Floor
+pub mod Rounding
+pub mod Nearest
+pub mod Values
+pub mod Theorem
+pub mod Examples

@@ -1,0 +1,126 @@
+-- Equal roots are chains of joined pairs. Assumes nothing.
+use Prim.Native.Nat.{ℕ, _<_, _≤_, min}
+use mathlib.Core.Path.{_≡_, sym, _∙_, subst}
+use mathlib.Core.Logic.{_↔_, _⊎_, inl, inr, ⊎-elim, by-cases}
+use mathlib.Core.List.{List, [], _∷_}
+use native.Mathlib.Omega.{arith}
+use native.Mathlib.Decide.{decLt}
+use lib.ListN.{length, getD}
+use borrow.Author.Tests.{lt-ltb, le-ltb}
+use Rattle.union_find.specs.declared.forest.UnionFind.{UnionFind}
+use Rattle.union_find.specs.Pairs.{Joined, Chain}
+use Rattle.union_find.specs.Laws.Chain.{chain-more}
+use Rattle.union_find.specs.Laws.Merging.{Also, Within, Kernel, kernel-start, kernel-more}
+use Rattle.union_find.specs.Forest.{table, newOf, findOf, unionOf, joinOf, joinAll, rootsOf}
+use Rattle.union_find.specs.Laws.WellFormed.{rootOf}
+use Rattle.union_find.specs.Inside.WellFormed.{Sound}
+use Rattle.union_find.specs.Laws.Find.{find-law}
+use Rattle.union_find.specs.Laws.Union.{Joins, union-law, table-length, table-at, new-law, new-root}
+
+-- the two ways of a join
+module _ (n : ℕ) (u : UnionFind) (e : ℕ × ℕ) where
+  pub join-in : e .0 < n → e .1 < n → joinOf n u e ≡ unionOf u (e .0) (e .1)
+  unfolding joinOf
+  join-in ha hb = simp (lt-ltb (e .0) n ha, lt-ltb (e .1) n hb)
+
+  pub join-out : (e .0 < n → e .1 < n → ⊥) → joinOf n u e ≡ u
+  unfolding joinOf
+  join-out h =
+      by-cases (decLt (e .0) n) (λ ha. simp (lt-ltb (e .0) n ha, le-ltb (e .1) n (by-cases (decLt (e .1) n) (λ hb. absurd (h ha hb)) (λ hb. omega arith))))
+      (λ ha. simp (le-ltb (e .0) n (omega arith)))
+
+kernel-same : {n : ℕ} {f : ℕ → ℕ} {R S : ℕ → ℕ → Type 0} → ((i j : ℕ) → R i j → S i j) → ((i j : ℕ) → S i j → R i j) → Kernel n f R → Kernel n f S
+kernel-same to from k i j hi hj = ((λ e. chain-more to (k i j hi hj .0 e)), (λ c. k i j hi hj .1 (chain-more from c)))
+
+-- a forest whose equal roots are the chains of R
+pub record Tells (R : ℕ → ℕ → Type 0) (u : UnionFind) : Type 0 where
+  pub sound : Sound u
+  pub kernel : Kernel 64 (rootOf (u .parent)) R
+
+module _ (n : ℕ) (hn : n ≤ 64) where
+  -- after the joins of a list, where R was joined before
+  joins : (es : List (ℕ × ℕ)) (u : UnionFind) (R : ℕ → ℕ → Type 0) → Within 64 R → Tells R u → Tells (λ i j. R i j ⊎ Joined n es i j) (joinAll n u es)
+  joins [] u R w t = record { sound = t .sound; kernel = kernel-same (λ i j r. inl r) (λ i j. ⊎-elim (λ r. r) (λ x. absurd (x .2))) (t .kernel) }
+  joins (e ∷ es) u R w t =
+      by-cases (decLt (e .0) n)
+      (λ ha. by-cases (decLt (e .1) n) (λ hb. into ha hb (joins es (unionOf u (e .0) (e .1)) (Also R (e .0) (e .1))))
+      (λ hb. past (λ ga gb. hb gb) (joins es u R w t)))
+      (λ ha. past (λ ga gb. ha ga) (joins es u R w t))
+    where
+      After : UnionFind → Type 0
+      After v = Tells (λ i j. R i j ⊎ Joined n (e ∷ es) i j) (joinAll n v es)
+
+      into :
+          e .0 < n → e .1 < n →
+          (Within 64 (Also R (e .0) (e .1)) → Tells (Also R (e .0) (e .1)) (unionOf u (e .0) (e .1)) → Tells (λ i j. Also R (e .0) (e .1) i j ⊎ Joined n es i j) (joinAll n (unionOf u (e .0) (e .1)) es)) →
+          After (joinOf n u e)
+      into ha hb more =
+          let ga : e .0 < 64 = omega arith in
+          let gb : e .1 < 64 = omega arith in
+          let j : Joins u (e .0) (e .1) (unionOf u (e .0) (e .1)) = union-law u (t .sound) (e .0) (e .1) ga gb in
+          let m =
+          more (λ a b. ⊎-elim (w a b) (λ s. (omega arith, omega arith))) (record { sound = j .sound; kernel = kernel-more ga gb w (j .merges) (t .kernel) }) in
+          subst After (sym (join-in n u e ha hb))
+          (record {
+            sound = m .sound;
+            kernel = kernel-same
+                (λ a b. ⊎-elim (⊎-elim (λ r. inl r) (λ s. inr (omega arith, omega arith, inl s))) (λ s. inr (s .0, s .1, inr (s .2))))
+                (λ a b. ⊎-elim (λ r. inl (inl r)) (λ s. ⊎-elim (λ q. inl (inr q)) (λ q. inr (s .0, s .1, q)) (s .2))) (m .kernel);
+          })
+
+      past : (e .0 < n → e .1 < n → ⊥) → Tells (λ i j. R i j ⊎ Joined n es i j) (joinAll n u es) → After (joinOf n u e)
+      past h m =
+          subst After (sym (join-out n u e h))
+          (record {
+            sound = m .sound;
+            kernel = kernel-same
+                (λ a b. ⊎-elim (λ r. inl r) (λ s. inr (s .0, s .1, inr (s .2))))
+                (λ a b. ⊎-elim (λ r. inl r)
+                (λ s. ⊎-elim (λ q. absurd (h (subst (λ (x : ℕ). x < n) (q .0) (s .0)) (subst (λ (x : ℕ). x < n) (q .1) (s .1))))
+                (λ q. inr (s .0, s .1, q)) (s .2))) (m .kernel);
+          })
+
+  -- from fresh
+  pub forest-tells : (es : List (ℕ × ℕ)) → Tells (Joined n es) (joinAll n newOf es)
+  forest-tells es =
+      let m = joins es newOf (λ i j. ⊥) (λ i j r. absurd r)
+      (record {
+        sound = new-law;
+        kernel = λ i j hi hj. (
+          (λ e. kernel-start 64 i j hi hj .0 (sym (new-root i hi) ∙ e ∙ new-root j hj)),
+          (λ c. new-root i hi
+              ∙ kernel-start 64 i j hi hj .1 c ∙ sym (new-root j hj)),
+        );
+      }) in
+      record { sound = m .sound; kernel = kernel-same (λ i j. ⊎-elim (λ r. absurd r) (λ s. s)) (λ i j s. inr s) (m .kernel) }
+
+-- the roots of the 64 places after the pairs of the first n were joined
+pub record RootsTell (n : ℕ) (es : List (ℕ × ℕ)) (roots : List ℕ) : Type 0 where
+  pub count : length roots ≡ 64
+  -- a root is a place
+  pub low : (i : ℕ) → i < 64 → getD roots i 0 < 64
+  -- two roots are equal exactly when a chain of joined pairs leads from the one place to the other
+  pub equal : (i j : ℕ) → i < 64 → j < 64 → (getD roots i 0 ≡ getD roots j 0) ↔ Chain (Joined n es) i j
+
+pub roots-tell : (n : ℕ) → n ≤ 64 → (es : List (ℕ × ℕ)) → RootsTell n es (rootsOf n es)
+unfolding rootsOf
+roots-tell n hn es =
+    record {
+      count = table-length 64 root;
+      low = λ i hi. subst (λ (x : ℕ). x < 64) (sym (table-at 64 root 0 i hi)) (find-law (u .parent) (u .rank) (t .sound) i hi .low);
+      equal = λ i j hi hj.
+          let k = t .kernel i j hi hj in
+          ((λ e. k .0 (sym (is i hi) ∙ e ∙ is j hj)), (λ c. is i hi ∙ k .1 c ∙ sym (is j hj)));
+    }
+  where
+    u : UnionFind
+    u = joinAll (min n 64) newOf es
+
+    root : ℕ → ℕ
+    root i = findOf (u .parent) i .root
+
+    t : Tells (Joined n es) u
+    t = subst (λ (m : ℕ). Tells (Joined n es) (joinAll m newOf es)) (omega arith) (forest-tells n hn es)
+
+    is : (i : ℕ) → i < 64 → getD (table 64 root) i 0 ≡ rootOf (u .parent) i
+    is i hi = table-at 64 root 0 i hi ∙ find-law (u .parent) (u .rank) (t .sound) i hi .is-root
