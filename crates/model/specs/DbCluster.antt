@@ -12,9 +12,10 @@ use Rattle.model.specs.declared.micro.DbMicro.{DbMicro}
 use Rattle.model.specs.declared.link.Link.{Link}
 use Rattle.model.specs.Answers.{Said, gives, refuses}
 use Rattle.model.specs.Questions.{firstNo}
+use Rattle.model.specs.Body.{fadedWeight}
 use Rattle.model.specs.Families.{labelsBy}
 use Rattle.model.specs.DbState.{State}
-use Rattle.model.specs.DbInsert.{fadedWeight, fadedLink, pairOf, absent, sameEnds, isHeld}
+use Rattle.model.specs.DbInsert.{fadedLink, pairOf, absent, sameEnds, isHeld}
 
 -- the place at which the creation number stands; the length of the list if at none
 unfoldable pub placeOf : List DbMicro → MicroId → ℕ
@@ -23,7 +24,7 @@ placeOf (m ∷ rest) id = cond (eqb (m .id .0) (id .0)) 0 (suc (placeOf rest id)
 
 -- "strong means faded weight ≥ min_weight"
 abbrev pub isStrong : State → DbMicro → Bool
-isStrong s m = le (s .params .settings .«min_weight») (fadedWeight (s .params .settings .lambda) (s .t) m)
+isStrong s m = le (s .params .settings .«min_weight») (fadedWeight (s .params .settings .lambda) (s .t) (m .body))
 
 abbrev pub strongOnes : State → List Bool
 strongOnes s = map (isStrong s) (s .held .micros)
@@ -60,7 +61,7 @@ ofLink f k (l ∷ rest) = cond (sameEnds l k) (f l) (ofLink f k rest)
 -- the weight as stored of the micro-cluster of a creation number
 unfoldable pub storedWeight : List DbMicro → MicroId → Float
 storedWeight [] id = nought
-storedWeight (m ∷ rest) id = cond (eqb (m .id .0) (id .0)) (m .cf .w) (storedWeight rest id)
+storedWeight (m ∷ rest) id = cond (eqb (m .id .0) (id .0)) (m .body .cf .w) (storedWeight rest id)
 
 -- "faded link / ((wa + wb)/2), with the weights as stored; 0 without a link"; "are both creation numbers live and different? No: 12."
 unfoldable pub connectivityOf : State → (a b : MicroId) → Said Float

@@ -15,20 +15,18 @@ use Rattle.model.specs.declared.micro.DbMicro.{DbMicro}
 use Rattle.model.specs.declared.link.Link.{Link}
 use Rattle.model.specs.Any.{any}
 use Rattle.model.specs.Limits.{linksMost}
-use Rattle.model.specs.Fading.{fadedTo, absorbing, birth, distanceTo}
+use Rattle.model.specs.Fading.{fadedTo}
+use Rattle.model.specs.Body.{birth, absorbing, fadedWeight, distanceTo}
 use Rattle.model.specs.DbState.{Params, Holdings, State}
 
--- ---- weights and links, faded to the clock t
-abbrev pub fadedWeight : (lambda t : Float) → DbMicro → Float
-fadedWeight lambda t m = fadedTo lambda t (m .cf .w) (m .last)
-
+-- a link, faded to the clock t
 abbrev pub fadedLink : (lambda t : Float) → Link → Float
 fadedLink lambda t l = fadedTo lambda t (l .value) (l .last)
 
 -- ---- the neighbours
 -- "Neighbours are the micro-clusters whose mean has squared distance at most r×r, all measured before any changes."
 abbrev pub isNeighbour : (r : Float) → List Float → DbMicro → Bool
-isNeighbour r x m = le (distanceTo x (m .cf)) (r ⊗ r)
+isNeighbour r x m = le (distanceTo x (m .body)) (r ⊗ r)
 
 abbrev pub neighboursOf : State → List Float → List DbMicro
 neighboursOf s x = retain (isNeighbour (s .params .settings .r) x) (s .held .micros)
@@ -42,15 +40,15 @@ leastOf [] = Nothing
 leastOf (d ∷ rest) = Distance (foldl smaller d rest)
 
 abbrev pub distancesOf : State → List Float → List Float
-distancesOf s x = map (λ (m : DbMicro). distanceTo x (m .cf)) (s .held .micros)
+distancesOf s x = map (λ (m : DbMicro). distanceTo x (m .body)) (s .held .micros)
 
 -- ---- the micro-clusters
 -- "With none, a new one goes to the end, with the next creation number from 0"
 abbrev pub newborn : (dim : ℕ) → MicroId → (t : Float) → List Float → DbMicro
-newborn dim id t x = record { cf = birth dim x; last = t; id = id }
+newborn dim id t x = record { body = birth dim t x; id = id }
 
 abbrev pub absorbs : (lambda t : Float) → List Float → DbMicro → DbMicro
-absorbs lambda t x m = record { cf = absorbing lambda t (m .last) x (m .cf); last = t; id = m .id }
+absorbs lambda t x m = record { body = absorbing lambda t x (m .body); id = m .id }
 
 -- "each neighbour fades to t and absorbs the point", and no other
 abbrev pub absorbed : (r lambda t : Float) → List Float → DbMicro → DbMicro
@@ -125,7 +123,7 @@ nearestFor s x = leastOf (distancesOf s x)
 
 -- ---- the cleanup: "micro-clusters of faded weight below floor go, then links that lost an end or faded below floor. Survivors keep their order."
 abbrev pub microStays : (lambda floor t : Float) → DbMicro → Bool
-microStays lambda floor t m = not (lt (fadedWeight lambda t m) floor)
+microStays lambda floor t m = not (lt (fadedWeight lambda t (m .body)) floor)
 
 abbrev pub isHeld : List DbMicro → MicroId → Bool
 isHeld ms id = any (λ (m : DbMicro). eqb (m .id .0) (id .0)) ms

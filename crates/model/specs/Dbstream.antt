@@ -13,7 +13,7 @@ use Rattle.model.specs.Outcome.{Opened, Outcome}
 use Rattle.model.specs.ReadOut.{LabelsRead, Statistics}
 use Rattle.model.specs.Stream as stream
 use Rattle.model.specs.DbState.{Settings, Params, Holdings, State, paramsOf, zeros, questions}
-use Rattle.model.specs.DbInsert.{fadedWeight, isAbsorbed, placed, nearestFor, cleanup}
+use Rattle.model.specs.DbInsert.{isAbsorbed, placed, nearestFor, cleanup}
 use Rattle.model.specs.DbCluster.{labelsOf}
 
 abbrev pub dbstream : stream.Kind Settings Params Holdings
@@ -33,8 +33,8 @@ dbstream =
       cleaned = cleanup;
       labelsOf = labelsOf;
       radius2 = λ p. p .settings .r ⊗ p .settings .r;
-      featuresOf = λ h. map (λ (m : DbMicro). m .cf) (h .micros);
-      weightsOf = λ s. map (fadedWeight (s .params .settings .lambda) (s .t)) (s .held .micros);
+      lambda = λ p. p .settings .lambda;
+      bodiesOf = λ h. map (λ (m : DbMicro). m .body) (h .micros);
     }
 
 abbrev pub asked : Settings → Opening

@@ -3,7 +3,7 @@ use mathlib.Core.Bool.{Bool}
 use mathlib.Core.List.{List, [], _∷_, _++_}
 use lib.Ieee.{lt}
 use Rattle.float.specs.Rounded.{_⊗_, nought, one}
-use Rattle.model.specs.declared.micro.Micro.{Micro}
+use Rattle.model.specs.declared.micro.DenMicro.{DenMicro}
 use Rattle.model.specs.declared.settings.DenSettings.{DenSettings}
 use Rattle.model.specs.declared.params.DenParams.{DenParams}
 use Rattle.model.specs.declared.answers.Opening.{Opening}
@@ -20,10 +20,10 @@ Params = DenParams
 
 -- both pools in list order with all that is kept of each
 pub record Holdings : Type 0 where
-  pub potential : List Micro
-  pub outliers : List Micro
+  pub potential : List DenMicro
+  pub outliers : List DenMicro
 
-abbrev pub pooled : (potential outliers : List Micro) → Holdings
+abbrev pub pooled : (potential outliers : List DenMicro) → Holdings
 pooled potential outliers = record { potential = potential; outliers = outliers }
 
 abbrev pub State : Type 0

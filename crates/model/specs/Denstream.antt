@@ -6,7 +6,7 @@ use lib.IntN.{ℤ}
 use lib.Ieee.{Float}
 use lib.ListN.{length}
 use Rattle.drift.specs.declared.Nearest.{Nearest}
-use Rattle.model.specs.declared.micro.Micro.{Micro}
+use Rattle.model.specs.declared.micro.DenMicro.{DenMicro}
 use Rattle.model.specs.declared.answers.Opening.{Opening}
 use Rattle.model.specs.Answers.{Said}
 use Rattle.model.specs.Outcome.{Opened, Outcome}
@@ -14,7 +14,7 @@ use Rattle.model.specs.ReadOut.{LabelsRead, Statistics}
 use Rattle.model.specs.Stream as stream
 use Rattle.model.specs.DenState.{Settings, Params, Holdings, pooled, State, paramsOf, zeros, questions}
 use Rattle.model.specs.DenInsert.{isAbsorbed, placed, nearestFor, pruned}
-use Rattle.model.specs.DenCluster.{fadedWeights, labelsOf}
+use Rattle.model.specs.DenCluster.{labelsOf}
 
 abbrev pub denstream : stream.Kind Settings Params Holdings
 denstream =
@@ -33,8 +33,8 @@ denstream =
       cleaned = pruned;
       labelsOf = labelsOf;
       radius2 = λ p. p .eps2;
-      featuresOf = λ h. map (λ (m : Micro). m .cf) (h .potential);
-      weightsOf = fadedWeights;
+      lambda = λ p. p .settings .lambda;
+      bodiesOf = λ h. map (λ (m : DenMicro). m .body) (h .potential);
     }
 
 abbrev pub asked : Settings → Opening

@@ -5,6 +5,7 @@ pub mod Questions
 pub mod Point
 pub mod Any
 pub mod Fading
+pub mod Body
 pub mod Ticking
 pub mod Periods
 pub mod Nearest

@@ -7,29 +7,29 @@ use lib.Dec.{eqb, leb}
 use lib.IntN.{ℤ, pos, negsuc}
 use lib.ListN.{length, getD, drop}
 use lib.Ieee.{Float, le}
-use Rattle.feature.specs.declared.spherical.Spherical.{Spherical}
+use Rattle.model.specs.declared.body.Body.{Body}
 use Rattle.model.specs.Answers.{Said, gives, refuses}
 use Rattle.model.specs.Any.{any}
 use Rattle.model.specs.Questions.{firstNo}
-use Rattle.model.specs.Fading.{distanceTo, radiusOf}
+use Rattle.model.specs.Body.{fadedWeight, distanceTo, radiusOf}
 use Rattle.model.specs.Nearest.{Near, nearestOf}
 
 -- ---- predict
 -- "or the nearest .. hasn't a squared distance at most the radius squared; else its label"
-abbrev pub labelNear : (radius2 : Float) → List ℤ → Option (Near Spherical) → ℤ
+abbrev pub labelNear : (radius2 : Float) → List ℤ → Option (Near Body) → ℤ
 labelNear radius2 labels none = negsuc 0
 labelNear radius2 labels (some b) = cond (le (b .dist) radius2) (getD labels (b .place) (negsuc 0)) (negsuc 0)
 
 -- "−1 if label and micro-cluster counts differ, none exists, or .."
-unfoldable pub labelFor : (radius2 : Float) → List Spherical → List ℤ → (x : List Float) → ℤ
+unfoldable pub labelFor : (radius2 : Float) → List Body → List ℤ → (x : List Float) → ℤ
 unfolding nearestOf
-labelFor radius2 features labels x =
-    cond (eqb (length labels) (length features)) (labelNear radius2 labels (nearestOf (distanceTo x) features)) (negsuc 0)
+labelFor radius2 bodies labels x =
+    cond (eqb (length labels) (length bodies)) (labelNear radius2 labels (nearestOf (distanceTo x) bodies)) (negsuc 0)
 
 -- "predict (7 only)"
-abbrev pub predictOf : (dim : ℕ) (radius2 : Float) → List Spherical → List ℤ → (x : List Float) → Said ℤ
-predictOf dim radius2 features labels x =
-    firstNo ((eqb (length x) dim, refuses 7 (dim ∷ length x ∷ [])) ∷ []) (gives (labelFor radius2 features labels x))
+abbrev pub predictOf : (dim : ℕ) (radius2 : Float) → List Body → List ℤ → (x : List Float) → Said ℤ
+predictOf dim radius2 bodies labels x =
+    firstNo ((eqb (length x) dim, refuses 7 (dim ∷ length x ∷ [])) ∷ []) (gives (labelFor radius2 bodies labels x))
 
 -- ---- lent slices
 -- "has every lent slice a place for each element due?"
@@ -68,16 +68,17 @@ pub record Statistics : Type 0 where
   pub radii : List Float
 
 -- the means, one after another
-unfoldable pub centresOf : List Spherical → List Float
+unfoldable pub centresOf : List Body → List Float
 centresOf [] = []
-centresOf (cf ∷ rest) = cf .mean ++ centresOf rest
+centresOf (b ∷ rest) = b .cf .mean ++ centresOf rest
 
--- "Statistics as `potential_stats` and `micro_stats`.": of features and their faded weights, into the slices lent
-abbrev pub statisticsRead : List Spherical → (faded : List Float) → (centres weights radii : List Float) → Statistics
-statisticsRead features faded centres weights radii =
+-- "Statistics as `potential_stats` and `micro_stats`.": weights faded to the clock t, into the slices lent
+abbrev pub statisticsRead : (lambda t : Float) → List Body → (centres weights radii : List Float) → Statistics
+statisticsRead lambda t bodies centres weights radii =
+    let faded : List Float = map (fadedWeight lambda t) bodies in
     firstNo
     ((
-      hasPlaces (centresOf features) centres && hasPlaces faded weights && hasPlaces (map radiusOf features) radii,
+      hasPlaces (centresOf bodies) centres && hasPlaces faded weights && hasPlaces (map radiusOf bodies) radii,
       record { number = 10; centres = centres; weights = weights; radii = radii },
     ) ∷ [])
-    (record { number = 0; centres = written (centresOf features) centres; weights = written faded weights; radii = written (map radiusOf features) radii })
+    (record { number = 0; centres = written (centresOf bodies) centres; weights = written faded weights; radii = written (map radiusOf bodies) radii })

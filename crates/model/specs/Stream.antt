@@ -7,9 +7,9 @@ use lib.IntN.{ℤ}
 use lib.Ieee.{Float}
 use lib.ListN.{length}
 use Rattle.float.specs.Rounded.{_⊕_, nought, one}
-use Rattle.feature.specs.declared.spherical.Spherical.{Spherical}
 use Rattle.drift.specs.Monitor.{Monitor, newOf, observeOf}
 use Rattle.drift.specs.declared.Nearest.{Nearest}
+use Rattle.model.specs.declared.body.Body.{Body}
 use Rattle.model.specs.declared.answers.Opening.{Opening}
 use Rattle.model.specs.declared.answers.Opening.the-variants.{Open}
 use Rattle.model.specs.Limits.{microsMost}
@@ -48,8 +48,8 @@ pub record Kind (S P H : Type 0) : Type 0 where
   -- families and read-outs
   pub labelsOf : State P H → List ℤ
   pub radius2 : P → Float
-  pub featuresOf : H → List Spherical
-  pub weightsOf : State P H → List Float
+  pub lambda : P → Float
+  pub bodiesOf : H → List Body
 
 -- s with other holdings, or with other labels
 abbrev pub holding : {P H : Type 0} → State P H → H → State P H
@@ -110,10 +110,10 @@ module _ {S P H : Type 0} (k : Kind S P H) where
   clusterOf s = labelled s (k .labelsOf s)
 
   abbrev pub predictOf : State P H → List Float → Said ℤ
-  predictOf s x = read.predictOf (k .dim (s .params)) (k .radius2 (s .params)) (k .featuresOf (s .held)) (s .labels) x
+  predictOf s x = read.predictOf (k .dim (s .params)) (k .radius2 (s .params)) (k .bodiesOf (s .held)) (s .labels) x
 
   abbrev pub labelsReadOf : State P H → (lent : List ℤ) → LabelsRead
   labelsReadOf s lent = labelsRead (s .labels) lent
 
   abbrev pub statisticsOf : State P H → (centres weights radii : List Float) → Statistics
-  statisticsOf s = statisticsRead (k .featuresOf (s .held)) (k .weightsOf s)
+  statisticsOf s = statisticsRead (k .lambda (s .params)) (s .t) (k .bodiesOf (s .held))

@@ -1,5 +1,6 @@
 // What both streams share: the limits, what is kept of a micro-cluster and of a link, the clock, the answers and the questions.
 mod answers;
+mod body;
 mod clock;
 mod fading;
 mod limits;
@@ -16,17 +17,15 @@ pub use answers::Insertion;
 pub use answers::Opening;
 pub use answers::Prediction;
 pub use answers::ReadOut;
+pub use body::Body;
 pub use clock::Clock;
 pub use clock::Ticked;
-pub use fading::absorbing;
-pub use fading::birth;
 pub use fading::faded;
-pub use fading::radius;
 pub use limits::LINKS;
 pub use limits::MICROS;
 pub use link::Link;
 pub use micro::DbMicro;
-pub use micro::Micro;
+pub use micro::DenMicro;
 pub use micro::MicroId;
 pub use params::DbParams;
 pub use params::DenParams;

@@ -1,7 +1,7 @@
 -- `radius` meets its contract. Assumes nothing.
 use borrow.Author.Needs.{needs}
-use Rattle.model.proofs.fading.radius.Statement.{statement}
-use Rattle.model.proofs.fading.radius.Tie as tie
+use Rattle.model.proofs.body.Body.radius.Statement.{statement}
+use Rattle.model.proofs.body.Body.radius.Tie as tie
 
 sqrt-requires : tie.Need-sqrt-requires
 sqrt-requires c κs = search needs

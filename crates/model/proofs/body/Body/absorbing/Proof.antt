@@ -1,7 +1,7 @@
 -- `absorbing` meets its contract. Assumes nothing.
 use borrow.Author.Needs.{needs}
-use Rattle.model.proofs.fading.absorbing.Statement.{statement}
-use Rattle.model.proofs.fading.absorbing.Tie as tie
+use Rattle.model.proofs.body.Body.absorbing.Statement.{statement}
+use Rattle.model.proofs.body.Body.absorbing.Tie as tie
 
 fade-requires : tie.Need-fade-requires
 fade-requires c κs = search needs

@@ -1,7 +1,7 @@
 -- `birth` meets its contract. Assumes nothing.
 use borrow.Author.Needs.{needs}
-use Rattle.model.proofs.fading.birth.Statement.{statement}
-use Rattle.model.proofs.fading.birth.Tie as tie
+use Rattle.model.proofs.body.Body.birth.Statement.{statement}
+use Rattle.model.proofs.body.Body.birth.Tie as tie
 
 new-requires : tie.Need-new-requires
 new-requires c κs = search needs
