@@ -1,16 +1,14 @@
--- Weights, densities, their ticks and the means' lengths, through every insert of a DBSTREAM.
+-- What is kept of each micro-cluster and link, through every insert of a DBSTREAM.
 use Prim.Native.Nat.{ℕ, _+_, _<_}
-use mathlib.Core.Path.{_≡_, refl, sym, ap, ap₂, _∙_, subst}
+use mathlib.Core.Path.{_≡_, refl, sym, ap, ap₂, subst}
 use mathlib.Core.Logic.{_⊎_, inl, inr, ⊎-elim}
 use mathlib.Core.Bool.{Bool, true, false, _&&_, cond, true≢false}
 use mathlib.Core.List.{List, [], _∷_, _++_, map, foldl}
 use native.Mathlib.Omega.{arith}
 use lib.Dec.{eqb}
-use lib.ListN.{length, length-replicate}
 use lib.Ieee.{Float}
 use borrow.Author.Tests.{lt-ltb, eqb-true}
 use Rattle.float.specs.Rounded.{_⊕_, nought, one}
-use Rattle.feature.specs.Feature.{empty}
 use Rattle.model.specs.declared.micro.MicroId.{MicroId}
 use Rattle.model.specs.declared.micro.DbMicro.{DbMicro}
 use Rattle.model.specs.declared.link.Link.{Link}
@@ -23,13 +21,13 @@ use Rattle.model.specs.Stream.{taking}
 use Rattle.model.specs.Laws.Stream.{tick-cases}
 use Rattle.claims.specs.Lists.{In, Each, Ascending}
 use Rattle.claims.specs.Clock.{Counts}
-use Rattle.claims.specs.Weighed.{Weighed}
+use Rattle.claims.specs.Weighed.{Weighed, KeptBody}
 use Rattle.claims.specs.DbClaims.{Older, Figures, after, told}
 use Rattle.claims.proofs.Places.{each-in}
 use Rattle.claims.proofs.Order.{each-more, each-append, each-retain, each-map, ascending-map, ascending-append}
 use Rattle.claims.proofs.Runs.{always}
-use Rattle.claims.proofs.Means.{moved-length}
-use Rattle.claims.proofs.Weights.{later, gains-one, regains, above-0, zero-most, zero-least}
+use Rattle.claims.proofs.Weights.{later, regains, above-0, zero-most, zero-least}
+use Rattle.claims.proofs.Bodies.{body-later, body-absorbing, body-birth}
 use Rattle.claims.proofs.DbCases.{placed-cases}
 use Rattle.claims.proofs.DbGains.{Smaller, pairs-each}
 use Rattle.claims.proofs.DbFresh.{Numbered, neighbours-ascend, numbered-taken, numbered-fresh}
@@ -108,8 +106,7 @@ module _ (lambda t : Float) where
 
 -- what is kept of the micro-clusters and links of dim coordinates
 record Kept (n dim : ℕ) (h : Holdings) : Type 0 where
-  means : Each (λ (m : DbMicro). length (m .cf .mean) ≡ dim) (h .micros)
-  weights : Each (λ (m : DbMicro). Weighed n (m .cf .w) (m .last)) (h .micros)
+  micros : Each (λ (m : DbMicro). KeptBody n dim (m .body)) (h .micros)
   densities : Each (λ (l : Link). Weighed n (l .value) (l .last)) (h .links)
 
 -- ---- a point taken
@@ -118,10 +115,9 @@ figures-joined :
     Kept (n + 1) (s .params .settings .dim) (joined s x)
 figures-joined n s x f asc g =
     record {
-      means = each-map (λ (m : DbMicro). length (m .cf .mean) ≡ s .params .settings .dim) (λ (m : DbMicro). length (m .cf .mean) ≡ s .params .settings .dim) join
-          (λ (m : DbMicro) e. mean m e (isNeighbour (s .params .settings .r) x m)) (s .held .micros) (g .means);
-      weights = each-map (λ (m : DbMicro). Weighed n (m .cf .w) (m .last)) (λ (m : DbMicro). Weighed (n + 1) (m .cf .w) (m .last)) join
-          (λ (m : DbMicro) e. weight m e (isNeighbour (s .params .settings .r) x m)) (s .held .micros) (g .weights);
+      micros = each-map (λ (m : DbMicro). KeptBody n (s .params .settings .dim) (m .body))
+          (λ (m : DbMicro). KeptBody (n + 1) (s .params .settings .dim) (m .body)) (absorbed (s .params .settings .r) (s .params .settings .lambda) (s .t) x)
+          (λ (m : DbMicro) k. either m k (isNeighbour (s .params .settings .r) x m)) (s .held .micros) (g .micros);
       densities = each-more (λ (l : Link) w. w .0) (joined s x .links)
           (gain-all (s .params .settings .lambda) (s .t) n f (pairsOf (map idOf (neighboursOf s x)))
           (pairs-ascend (map idOf (neighboursOf s x)) (neighbours-ascend s x asc)) (s .held .links)
@@ -129,31 +125,20 @@ figures-joined n s x f asc g =
           (g .densities)));
     }
   where
-    join : DbMicro → DbMicro
-    join = absorbed (s .params .settings .r) (s .params .settings .lambda) (s .t) x
-
-    mean :
-        (m : DbMicro) → length (m .cf .mean) ≡ s .params .settings .dim → (b : Bool) →
-        length (cond b (absorbs (s .params .settings .lambda) (s .t) x m) m .cf .mean) ≡ s .params .settings .dim
-    mean m e true = moved-length _ (m .cf .mean) x ∙ e
-    mean m e false = e
-
-    weight :
-        (m : DbMicro) → Weighed n (m .cf .w) (m .last) → (b : Bool) →
-        Weighed (n + 1) (cond b (absorbs (s .params .settings .lambda) (s .t) x m) m .cf .w) (cond b (absorbs (s .params .settings .lambda) (s .t) x m) m .last)
-    weight m w true = regains n (m .cf .w) (m .last) (s .params .settings .lambda) (s .t) f (above-0 (m .cf .w) (w .least)) (w .most)
-    weight m w false = later n (m .cf .w) (m .last) (f .limit) w
+    either :
+        (m : DbMicro) → KeptBody n (s .params .settings .dim) (m .body) → (b : Bool) →
+        KeptBody (n + 1) (s .params .settings .dim) (cond b (absorbs (s .params .settings .lambda) (s .t) x m) m .body)
+    either m k true = body-absorbing n (s .params .settings .dim) (s .t) x f (s .params .settings .lambda) (m .body) k
+    either m k false = body-later n (s .params .settings .dim) (m .body) (f .limit) k
 
 figures-born :
     (n : ℕ) (s : State) (x : List Float) → Counts n (s .t) → Ascending Older (s .held .micros) → Kept n (s .params .settings .dim) (s .held) →
     Kept (n + 1) (s .params .settings .dim) (born s x)
 figures-born n s x f asc g =
     record {
-      means = each-append (λ (m : DbMicro). length (m .cf .mean) ≡ s .params .settings .dim) (s .held .micros) (new ∷ []) (g .means)
-          (moved-length _ (empty (s .params .settings .dim) .mean) x ∙ length-replicate (s .params .settings .dim) nought, tt);
-      weights = each-append (λ (m : DbMicro). Weighed (n + 1) (m .cf .w) (m .last)) (s .held .micros) (new ∷ [])
-          (each-more (λ (m : DbMicro) w. later n (m .cf .w) (m .last) (f .limit) w) (s .held .micros) (g .weights))
-          (gains-one n nought (s .t) f zero-least (zero-most n (f .limit)), tt);
+      micros = each-append (λ (m : DbMicro). KeptBody (n + 1) (s .params .settings .dim) (m .body)) (s .held .micros) (new ∷ [])
+          (each-more (λ (m : DbMicro) k. body-later n (s .params .settings .dim) (m .body) (f .limit) k) (s .held .micros) (g .micros))
+          (body-birth n (s .params .settings .dim) (s .t) x f, tt);
       densities = each-more (λ (l : Link) w. later n (l .value) (l .last) (f .limit) w) (s .held .links) (g .densities);
     }
   where
@@ -163,8 +148,7 @@ figures-born n s x f asc g =
 figures-cleanup : (n dim : ℕ) (p : Params) (t : Float) (h : Holdings) → Kept n dim h → Kept n dim (cleanup p t h)
 figures-cleanup n dim p t h g =
     record {
-      means = each-retain (λ (m : DbMicro). length (m .cf .mean) ≡ dim) (microStays (p .settings .lambda) (p .floor) t) (h .micros) (g .means);
-      weights = each-retain (λ (m : DbMicro). Weighed n (m .cf .w) (m .last)) (microStays (p .settings .lambda) (p .floor) t) (h .micros) (g .weights);
+      micros = each-retain (λ (m : DbMicro). KeptBody n dim (m .body)) (microStays (p .settings .lambda) (p .floor) t) (h .micros) (g .micros);
       densities = each-retain (λ (l : Link). Weighed n (l .value) (l .last)) (linkStays (p .settings .lambda) (p .floor) t (cleanup p t h .micros)) (h .links)
           (g .densities);
     }
@@ -190,5 +174,5 @@ both-taken n s x c e b =
 pub figures : (p : Settings) (xs : List (List Float)) → Figures (acceptedIn (told p xs)) (after p xs)
 figures p xs =
     let k : Kept (acceptedIn (told p xs)) (after p xs .params .settings .dim) (after p xs .held) =
-    always dbstream hasPlace Both both-taken p (record { numbered = numbered-fresh p; kept = record { means = tt; weights = tt; densities = tt } }) xs .kept in
-    record { means = k .means; weights = k .weights; densities = k .densities }
+    always dbstream hasPlace Both both-taken p (record { numbered = numbered-fresh p; kept = record { micros = tt; densities = tt } }) xs .kept in
+    record { micros = k .micros; densities = k .densities }

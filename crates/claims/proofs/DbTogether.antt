@@ -15,7 +15,8 @@ use Rattle.union_find.specs.Laws.Chain.{chain-more}
 use Rattle.model.specs.declared.micro.DbMicro.{DbMicro}
 use Rattle.model.specs.Limits.{microsMost}
 use Rattle.model.specs.DbState.{Settings, Params, State, paramsOf}
-use Rattle.model.specs.DbInsert.{fadedWeight, fadedLink}
+use Rattle.model.specs.Body.{fadedWeight}
+use Rattle.model.specs.DbInsert.{fadedLink}
 use Rattle.model.specs.Dbstream.{dbstream, hasPlace, clusterOf}
 use Rattle.claims.specs.Lists.{At, Ascending}
 use Rattle.claims.specs.DbClaims.{Older, Strong, StrongNumber, Step, LabelsTellFamilies, Laxer, StayTogether, after}
@@ -37,7 +38,7 @@ module _ (alpha minWeight : Float) (labels : List ℤ) (s : State)
   u = clusterOf (twin alpha minWeight labels s)
 
   strong-stays : (m : DbMicro) → Strong s m → Strong u m
-  strong-stays m e = reaches minWeight (s .params .settings .«min_weight») (fadedWeight (s .params .settings .lambda) (s .t) m) lighter e
+  strong-stays m e = reaches minWeight (s .params .settings .«min_weight») (fadedWeight (s .params .settings .lambda) (s .t) (m .body)) lighter e
 
   number-stays : (a : ℕ) → StrongNumber (clusterOf s) a → StrongNumber u a
   number-stays a n = record { micro = n .micro; held = n .held; number = n .number; strong = strong-stays (n .micro) (n .strong) }

@@ -1,44 +1,38 @@
 -- What is kept of each micro-cluster, through every insert of a DenStream.
 use Prim.Native.Nat.{ℕ, _+_, _<_, _≤_}
-use mathlib.Core.Path.{sym, _∙_, subst}
+use mathlib.Core.Path.{sym, subst}
 use mathlib.Core.List.{List, [], _∷_}
 use native.Mathlib.Omega.{arith}
-use lib.ListN.{length-replicate}
 use lib.Ieee.{Float}
-use Rattle.float.specs.Rounded.{_⊕_, nought, one}
-use Rattle.feature.specs.Feature.{empty}
-use Rattle.model.specs.declared.micro.Micro.{Micro}
+use Rattle.float.specs.Rounded.{_⊕_, one}
+use Rattle.model.specs.declared.micro.DenMicro.{DenMicro}
 use Rattle.model.specs.Limits.{clockMost}
 use Rattle.model.specs.Nearest.{Near}
 use Rattle.model.specs.Run.{acceptedIn}
 use Rattle.model.specs.DenState.{Settings, Holdings, State}
-use Rattle.model.specs.DenInsert.{absorbing, newborn, placed, nearestFor, potentialStays, outlierStays}
+use Rattle.model.specs.DenInsert.{absorbs, newborn, placed, nearestFor, potentialStays, outlierStays}
 use Rattle.model.specs.Denstream.{denstream, hasPlace, takenOf}
 use Rattle.model.specs.Stream.{taking}
 use Rattle.model.specs.Laws.Stream.{tick-cases}
 use Rattle.claims.specs.Lists.{Each}
 use Rattle.claims.specs.Clock.{Counts}
-use Rattle.claims.specs.Weighed.{Weighed}
 use Rattle.claims.specs.DenClaims.{Kept, Figures, after, told}
 use Rattle.claims.proofs.Places.{at-in, each-in}
 use Rattle.claims.proofs.Order.{each-more, each-append, each-set, each-without, each-retain}
 use Rattle.claims.proofs.Runs.{always}
-use Rattle.claims.proofs.Means.{moved-length}
-use Rattle.claims.proofs.Weights.{later, gains-one, regains, above-0, zero-most, zero-least}
+use Rattle.claims.proofs.Bodies.{body-later, body-absorbing, body-birth}
 use Rattle.claims.proofs.DenTrials.{Tried}
 use Rattle.claims.proofs.DenCases.{placed-cases}
 
 -- ---- one micro-cluster
-kept-later : (n dim : ℕ) (m : Micro) → n ≤ clockMost → Kept n dim m → Kept (n + 1) dim m
+kept-later : (n dim : ℕ) (m : DenMicro) → n ≤ clockMost → Kept n dim m → Kept (n + 1) dim m
 kept-later n dim m h k =
-    record { mean = k .mean; weight = later n (m .cf .w) (m .last) h (k .weight); birth = k .birth; before = (let b : k .birth < n = k .before in omega arith); born = k .born }
+    record { body = body-later n dim (m .body) h (k .body); birth = k .birth; before = (let b : k .birth < n = k .before in omega arith); born = k .born }
 
-kept-absorbing : (n dim : ℕ) (lambda t : Float) (x : List Float) (m : Micro) → Counts n t → Kept n dim m → Kept (n + 1) dim (absorbing lambda t x m)
-kept-absorbing n dim lambda t x m c k =
-    let w : Weighed n (m .cf .w) (m .last) = k .weight in
+kept-absorbs : (n dim : ℕ) (lambda t : Float) (x : List Float) (m : DenMicro) → Counts n t → Kept n dim m → Kept (n + 1) dim (absorbs lambda t x m)
+kept-absorbs n dim lambda t x m c k =
     record {
-      mean = moved-length _ (m .cf .mean) x ∙ k .mean;
-      weight = regains n (m .cf .w) (m .last) lambda t c (above-0 (m .cf .w) (w .least)) (w .most);
+      body = body-absorbing n dim t x c lambda (m .body) (k .body);
       birth = k .birth;
       before = (let b : k .birth < n = k .before in omega arith);
       born = k .born;
@@ -47,8 +41,7 @@ kept-absorbing n dim lambda t x m c k =
 kept-newborn : (n dim : ℕ) (t : Float) (x : List Float) → Counts n t → Kept (n + 1) dim (newborn dim t x)
 kept-newborn n dim t x c =
     record {
-      mean = moved-length _ (empty dim .mean) x ∙ length-replicate dim nought;
-      weight = gains-one n nought t c zero-least (zero-most n (c .limit));
+      body = body-birth n dim t x c;
       birth = n;
       before = omega arith;
       born = c .exact;
@@ -59,16 +52,16 @@ abbrev Both : (n dim : ℕ) → Holdings → Type 0
 Both n dim h = Each (Kept n dim) (h .potential) × Each (Kept n dim) (h .outliers)
 
 module _ (n : ℕ) (s : State) (x : List Float) (c : Counts n (s .t)) (g : Both n (s .params .settings .dim) (s .held)) where
-  abbrev All : List Micro → Type 0
+  abbrev All : List DenMicro → Type 0
   All = Each (Kept (n + 1) (s .params .settings .dim))
 
-  all-later : (l : List Micro) → Each (Kept n (s .params .settings .dim)) l → All l
-  all-later l e = each-more (λ (m : Micro) k. kept-later n (s .params .settings .dim) m (c .limit) k) l e
+  all-later : (l : List DenMicro) → Each (Kept n (s .params .settings .dim)) l → All l
+  all-later l e = each-more (λ (m : DenMicro) k. kept-later n (s .params .settings .dim) m (c .limit) k) l e
 
-  grown : (l : List Micro) (b : Near Micro) → Each (Kept n (s .params .settings .dim)) l → Tried s x l b → Kept (n + 1) (s .params .settings .dim) (b .micro)
+  grown : (l : List DenMicro) (b : Near DenMicro) → Each (Kept n (s .params .settings .dim)) l → Tried s x l b → Kept (n + 1) (s .params .settings .dim) (b .micro)
   grown l b e t =
       subst (Kept (n + 1) (s .params .settings .dim)) (sym (t .grown))
-      (kept-absorbing n (s .params .settings .dim) (s .params .settings .lambda) (s .t) x (t .old) c
+      (kept-absorbs n (s .params .settings .dim) (s .params .settings .lambda) (s .t) x (t .old) c
       (each-in (Kept n (s .params .settings .dim)) l (t .old) e (at-in l (b .place) (t .old) (t .at))))
 
   both-placed : Both (n + 1) (s .params .settings .dim) (placed s x)

@@ -23,7 +23,8 @@ use Rattle.labels.specs.Laws.Label.{LabelsTell}
 use Rattle.model.specs.Limits.{microsMost}
 use Rattle.model.specs.Families.{labelsBy, countedBy}
 use Rattle.model.specs.DenState.{State}
-use Rattle.model.specs.DenInsert.{fadedWeight}
+use Rattle.model.specs.declared.micro.DenMicro.{DenMicro}
+use Rattle.model.specs.Body.{fadedWeight}
 use Rattle.model.specs.DenCluster.{joinsOf, fadedWeights, labelsOf}
 use Rattle.model.specs.Denstream.{clusterOf}
 use Rattle.claims.specs.DenClaims.{OneGroup, Weighs, LabelsTellGroups}
@@ -45,7 +46,7 @@ module _ (s : State) (labelled : s .labels ≡ labelsOf s) (few : length (s .hel
   n = length ws
 
   n-is : n ≡ length (s .held .potential)
-  n-is = length-map (s .held .potential) (fadedWeight (s .params .settings .lambda) (s .t))
+  n-is = length-map (s .held .potential) (λ (m : DenMicro). fadedWeight (s .params .settings .lambda) (s .t) (m .body))
 
   low : n ≤ 64
   low = omega (arith, n-is, few)

@@ -8,14 +8,14 @@ use native.Mathlib.Omega.{arith}
 use lib.Ieee.{Float}
 use lib.ListN.{length, getD}
 use Rattle.union_find.specs.Pairs.{Listed}
-use Rattle.model.specs.declared.micro.Micro.{Micro}
+use Rattle.model.specs.declared.micro.DenMicro.{DenMicro}
 use Rattle.model.specs.DenState.{State}
 use Rattle.model.specs.DenCluster.{close, rowFrom, pairsFrom, joinsOf}
 use Rattle.claims.specs.DenClaims.{centre, Step}
 
 -- the mean of the one at place i of a list
-abbrev meanAt : List Micro → ℕ → List Float
-meanAt ms i = getD (map (λ (m : Micro). m .cf .mean) ms) i []
+abbrev meanAt : List DenMicro → ℕ → List Float
+meanAt ms i = getD (map (λ (m : DenMicro). m .body .cf .mean) ms) i []
 
 abbrev Close : Float → List Float → List Float → Type 0
 Close eps2 a b = close eps2 a b ≡ true
@@ -30,19 +30,19 @@ still false p r a b h = h
 
 -- a row, both ways
 row-to :
-    (e : Float) (i : ℕ) (m : List Float) (j : ℕ) (ks : List Micro) (a b : ℕ) → Listed (rowFrom e i m j ks) a b →
+    (e : Float) (i : ℕ) (m : List Float) (j : ℕ) (ks : List DenMicro) (a b : ℕ) → Listed (rowFrom e i m j ks) a b →
     (q : ℕ) × (q < length ks) × (a ≡ i) × (b ≡ j + q) × Close e m (meanAt ks q)
 unfolding rowFrom
 row-to e i m j [] a b h = absurd h
 row-to e i m j (k ∷ ks) a b h =
-    either (close e m (k .cf .mean)) ((i, j) ∷ rowFrom e i m (j + 1) ks) (rowFrom e i m (j + 1) ks) a b h
+    either (close e m (k .body .cf .mean)) ((i, j) ∷ rowFrom e i m (j + 1) ks) (rowFrom e i m (j + 1) ks) a b h
     (λ t.
     ⊎-elim (λ w. let v : b ≡ j = w .1 in (0, omega arith, w .0, omega arith, t))
     (λ r. let w = row-to e i m (j + 1) ks a b r in let l : w .0 < length ks = w .1 in let v : b ≡ j + 1 + w .0 = w .3 in (suc (w .0), omega arith, w .2, omega arith, w .4)))
     (λ r. let w = row-to e i m (j + 1) ks a b r in let l : w .0 < length ks = w .1 in let v : b ≡ j + 1 + w .0 = w .3 in (suc (w .0), omega arith, w .2, omega arith, w .4))
 
 row-from :
-    (e : Float) (i : ℕ) (m : List Float) (j : ℕ) (ks : List Micro) (q : ℕ) → q < length ks → Close e m (meanAt ks q) →
+    (e : Float) (i : ℕ) (m : List Float) (j : ℕ) (ks : List DenMicro) (q : ℕ) → q < length ks → Close e m (meanAt ks q) →
     Listed (rowFrom e i m j ks) i (j + q)
 unfolding rowFrom
 row-from e i m j [] q h t = absurd (omega arith)
@@ -51,7 +51,7 @@ row-from e i m j (k ∷ ks) zero h t =
 row-from e i m j (k ∷ ks) (suc q) h t =
     let r : Listed (rowFrom e i m (j + 1) ks) i (j + 1 + q) = row-from e i m (j + 1) ks q (omega arith) t in
     let n : j + 1 + q ≡ j + suc q = omega arith in
-    still (close e m (k .cf .mean)) (i, j) (rowFrom e i m (j + 1) ks) i (j + suc q) (subst (λ (b : ℕ). Listed (rowFrom e i m (j + 1) ks) i b) n r)
+    still (close e m (k .body .cf .mean)) (i, j) (rowFrom e i m (j + 1) ks) i (j + suc q) (subst (λ (b : ℕ). Listed (rowFrom e i m (j + 1) ks) i b) n r)
 
 split : (x y : List (ℕ × ℕ)) (a b : ℕ) → Listed (x ++ y) a b → Listed x a b ⊎ Listed y a b
 split [] y a b h = inr h
@@ -67,14 +67,14 @@ on-right (p ∷ x) y a b h = inr (on-right x y a b h)
 
 -- all pairs, both ways
 pairs-to :
-    (e : Float) (i : ℕ) (ms : List Micro) (a b : ℕ) → Listed (pairsFrom e i ms) a b →
+    (e : Float) (i : ℕ) (ms : List DenMicro) (a b : ℕ) → Listed (pairsFrom e i ms) a b →
     (p q : ℕ) × (p < q) × (q < length ms) × (a ≡ i + p) × (b ≡ i + q) × Close e (meanAt ms p) (meanAt ms q)
 unfolding pairsFrom
 pairs-to e i [] a b h = absurd h
 pairs-to e i (m ∷ ms) a b h =
     ⊎-elim
     (λ r.
-    let w = row-to e i (m .cf .mean) (i + 1) ms a b r in
+    let w = row-to e i (m .body .cf .mean) (i + 1) ms a b r in
     let l : w .0 < length ms = w .1 in
     let u : a ≡ i = w .2 in
     let v : b ≡ i + 1 + w .0 = w .3 in
@@ -86,10 +86,10 @@ pairs-to e i (m ∷ ms) a b h =
     let u : a ≡ i + 1 + w .0 = w .4 in
     let v : b ≡ i + 1 + w .1 = w .5 in
     (suc (w .0), suc (w .1), omega arith, omega arith, omega arith, omega arith, w .6))
-    (split (rowFrom e i (m .cf .mean) (i + 1) ms) (pairsFrom e (i + 1) ms) a b h)
+    (split (rowFrom e i (m .body .cf .mean) (i + 1) ms) (pairsFrom e (i + 1) ms) a b h)
 
 pairs-from :
-    (e : Float) (i : ℕ) (ms : List Micro) (p q : ℕ) → p < q → q < length ms → Close e (meanAt ms p) (meanAt ms q) →
+    (e : Float) (i : ℕ) (ms : List DenMicro) (p q : ℕ) → p < q → q < length ms → Close e (meanAt ms p) (meanAt ms q) →
     Listed (pairsFrom e i ms) (i + p) (i + q)
 unfolding pairsFrom
 pairs-from e i [] p q f h t = absurd (omega arith)
@@ -97,14 +97,14 @@ pairs-from e i (m ∷ ms) p zero f h t = absurd (omega arith)
 pairs-from e i (m ∷ ms) zero (suc q) f h t =
     let u : i ≡ i + 0 = omega arith in
     let v : i + 1 + q ≡ i + suc q = omega arith in
-    let r : Listed (rowFrom e i (m .cf .mean) (i + 1) ms) i (i + 1 + q) = row-from e i (m .cf .mean) (i + 1) ms q (omega arith) t in
-    on-left (rowFrom e i (m .cf .mean) (i + 1) ms) (pairsFrom e (i + 1) ms) (i + 0) (i + suc q)
-    (subst (λ (a : ℕ). Listed (rowFrom e i (m .cf .mean) (i + 1) ms) a (i + suc q)) u (subst (λ (b : ℕ). Listed (rowFrom e i (m .cf .mean) (i + 1) ms) i b) v r))
+    let r : Listed (rowFrom e i (m .body .cf .mean) (i + 1) ms) i (i + 1 + q) = row-from e i (m .body .cf .mean) (i + 1) ms q (omega arith) t in
+    on-left (rowFrom e i (m .body .cf .mean) (i + 1) ms) (pairsFrom e (i + 1) ms) (i + 0) (i + suc q)
+    (subst (λ (a : ℕ). Listed (rowFrom e i (m .body .cf .mean) (i + 1) ms) a (i + suc q)) u (subst (λ (b : ℕ). Listed (rowFrom e i (m .body .cf .mean) (i + 1) ms) i b) v r))
 pairs-from e i (m ∷ ms) (suc p) (suc q) f h t =
     let u : i + 1 + p ≡ i + suc p = omega arith in
     let v : i + 1 + q ≡ i + suc q = omega arith in
     let r : Listed (pairsFrom e (i + 1) ms) (i + 1 + p) (i + 1 + q) = pairs-from e (i + 1) ms p q (omega arith) (omega arith) t in
-    on-right (rowFrom e i (m .cf .mean) (i + 1) ms) (pairsFrom e (i + 1) ms) (i + suc p) (i + suc q)
+    on-right (rowFrom e i (m .body .cf .mean) (i + 1) ms) (pairsFrom e (i + 1) ms) (i + suc p) (i + suc q)
     (subst (λ (a : ℕ). Listed (pairsFrom e (i + 1) ms) a (i + suc q)) u (subst (λ (b : ℕ). Listed (pairsFrom e (i + 1) ms) (i + 1 + p) b) v r))
 
 pub listed-step : (s : State) (i j : ℕ) → Listed (joinsOf s) i j → Step s i j

@@ -7,11 +7,11 @@ use mathlib.Core.Option.{Option, none, some}
 use lib.Ieee.{Float, lt}
 use lib.ListN.{length, length-append}
 use lib.Seq.{append-snoc}
-use Rattle.model.specs.declared.micro.Micro.{Micro}
-use Rattle.model.specs.Fading.{distanceTo}
+use Rattle.model.specs.declared.micro.DenMicro.{DenMicro}
+use Rattle.model.specs.Body.{distanceTo}
 use Rattle.model.specs.Nearest.{Near, nearAt, nearer, nearestFrom, nearestOf}
 use Rattle.model.specs.DenState.{State}
-use Rattle.model.specs.DenInsert.{absorbing, stands, trialIn}
+use Rattle.model.specs.DenInsert.{absorbs, stands, trialIn}
 use Rattle.claims.specs.Lists.{At}
 
 -- ---- the nearest stands at its place
@@ -40,26 +40,26 @@ module _ {A : Type 0} (distance : A → Float) where
       (from-at more rest new (subst (λ (l : List A). At l (new .place) (new .micro)) (sym e) i)))
 
 -- ---- a trial
-pub record Tried (s : State) (x : List Float) (pool : List Micro) (b : Near Micro) : Type 0 where
-  pub old : Micro
+pub record Tried (s : State) (x : List Float) (pool : List DenMicro) (b : Near DenMicro) : Type 0 where
+  pub old : DenMicro
   pub at : At pool (b .place) old
-  pub grown : b .micro ≡ absorbing (s .params .settings .lambda) (s .t) x old
+  pub grown : b .micro ≡ absorbs (s .params .settings .lambda) (s .t) x old
 
-abbrev pub TriedBy : State → List Float → List Micro → Option (Near Micro) → Type 0
+abbrev pub TriedBy : State → List Float → List DenMicro → Option (Near DenMicro) → Type 0
 TriedBy s x pool none = Unit {0}
 TriedBy s x pool (some b) = Tried s x pool b
 
-pub tried : (s : State) (x : List Float) (pool : List Micro) → TriedBy s x pool (trialIn s x pool)
+pub tried : (s : State) (x : List Float) (pool : List DenMicro) → TriedBy s x pool (trialIn s x pool)
 unfolding nearestOf
 tried s x [] = tt
-tried s x (m ∷ pool) = go (stands (s .params .eps2) (absorbing (s .params .settings .lambda) (s .t) x (best .micro)))
+tried s x (m ∷ pool) = go (stands (s .params .eps2) (absorbs (s .params .settings .lambda) (s .t) x (best .micro)))
   where
-    dist : Micro → Float
-    dist m = distanceTo x (m .cf)
+    dist : DenMicro → Float
+    dist m = distanceTo x (m .body)
 
-    best : Near Micro
+    best : Near DenMicro
     best = nearestFrom dist (nearAt dist 0 m) 1 pool
 
-    go : (t : Bool) → TriedBy s x (m ∷ pool) (cond t (some (record { place = best .place; micro = absorbing (s .params .settings .lambda) (s .t) x (best .micro); dist = best .dist })) none)
+    go : (t : Bool) → TriedBy s x (m ∷ pool) (cond t (some (record { place = best .place; micro = absorbs (s .params .settings .lambda) (s .t) x (best .micro); dist = best .dist })) none)
     go true = record { old = best .micro; at = from-at dist (m ∷ []) pool (nearAt dist 0 m) refl; grown = refl }
     go false = tt

@@ -9,6 +9,7 @@ pub mod Periods
 pub mod Means
 pub mod Weight
 pub mod Weights
+pub mod Bodies
 pub mod DbPlaces
 pub mod DbCases
 pub mod DbGains

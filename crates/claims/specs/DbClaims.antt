@@ -23,7 +23,7 @@ use Rattle.model.specs.DbCluster.{isStrong, isDense}
 use Rattle.model.specs.Dbstream.{dbstream, hasPlace, clusterOf}
 use Rattle.claims.specs.Lists.{At, In, Each, Ascending}
 use Rattle.claims.specs.Clock.{Counts}
-use Rattle.claims.specs.Weighed.{Weighed}
+use Rattle.claims.specs.Weighed.{Weighed, KeptBody}
 use Rattle.claims.specs.Whole as whole
 
 -- ---- labels
@@ -128,8 +128,7 @@ pub record FromFresh (n : ℕ) (s : State) : Type 0 where
 
 -- what is kept of each micro-cluster and link
 pub record Figures (n : ℕ) (s : State) : Type 0 where
-  pub means : Each (λ (m : DbMicro). length (m .cf .mean) ≡ s .params .settings .dim) (s .held .micros)
-  pub weights : Each (λ (m : DbMicro). Weighed n (m .cf .w) (m .last)) (s .held .micros)
+  pub micros : Each (λ (m : DbMicro). KeptBody n (s .params .settings .dim) (m .body)) (s .held .micros)
   pub densities : Each (λ (l : Link). Weighed n (l .value) (l .last)) (s .held .links)
 
 -- a gain in a list that always has room

@@ -11,7 +11,7 @@ use Rattle.float.specs.Rounded.{_⊖_, _⊗_, nought, one, whole}
 use Rattle.float.specs.TwoTo.{twoTo}
 use Rattle.union_find.specs.Pairs.{Chain}
 use Rattle.labels.specs.Group.{Summed}
-use Rattle.model.specs.declared.micro.Micro.{Micro}
+use Rattle.model.specs.declared.micro.DenMicro.{DenMicro}
 use Rattle.model.specs.declared.answers.Insertion.{Insertion}
 use Rattle.model.specs.Limits.{microsMost}
 use Rattle.model.specs.Run.{acceptedIn}
@@ -21,13 +21,13 @@ use Rattle.model.specs.DenCluster.{close, fadedWeights}
 use Rattle.model.specs.Denstream.{denstream, hasPlace, clusterOf}
 use Rattle.claims.specs.Lists.{Each}
 use Rattle.claims.specs.Clock.{Counts}
-use Rattle.claims.specs.Weighed.{Weighed}
+use Rattle.claims.specs.Weighed.{KeptBody}
 use Rattle.claims.specs.Whole as whole
 
 -- ---- labels
 -- "A centre is a potential one's mean"
 abbrev pub centre : State → ℕ → List Float
-centre s i = getD (map (λ (m : Micro). m .cf .mean) (s .held .potential)) i []
+centre s i = getD (map (λ (m : DenMicro). m .body .cf .mean) (s .held .potential)) i []
 
 -- one step of a chain, which may take it either way round: the centres of the places i and j are at squared distance ≤ 4×(eps×eps)
 pub record Step (s : State) (i j : ℕ) : Type 0 where
@@ -71,10 +71,9 @@ pub record FromFresh (n : ℕ) (s : State) : Type 0 where
   -- both pools together
   pub places : length (s .held .potential) + length (s .held .outliers) ≤ microsMost
 
--- what is kept of a micro-cluster: its mean, its weight, and its birth at the tick of an accepted insert
-pub record Kept (n dim : ℕ) (m : Micro) : Type 0 where
-  pub mean : length (m .cf .mean) ≡ dim
-  pub weight : Weighed n (m .cf .w) (m .last)
+-- what is kept of a micro-cluster: its body, and its birth at the tick of an accepted insert
+pub record Kept (n dim : ℕ) (m : DenMicro) : Type 0 where
+  pub body : KeptBody n dim (m .body)
   pub birth : ℕ
   pub before : birth < n
   pub born : m .t0 ≡ whole birth
