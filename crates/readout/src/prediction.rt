@@ -1,8 +1,8 @@
 // The label that a point is told.
 use crate::labels::label_for;
 use feature::MAX_DIM;
-use feature::Spherical;
 use feature::sq_euclidean;
+use model::Body;
 use model::MICROS;
 use model::Prediction;
 ghost use mathlib.Core.Path.{_≡_};
@@ -15,19 +15,15 @@ ghost use Rattle.model.specs.ReadOut.{predictOf};
 ghost use Rattle.readout.specs.Seen.{seen, distanceIn};
 
 // The squared distances of the point to the means.
-fn distances(
-    features: [Spherical; MICROS],
-    n: usize,
-    x: [f64; MAX_DIM],
-    dim: usize,
-) -> [f64; MICROS]
-    ensures { λ r. ⌜ take n r ≡ map (distanceIn dim (take dim x)) (take n features) ⌝ }
+fn distances(bodies: [Body; MICROS], n: usize, x: [f64; MAX_DIM], dim: usize) -> [f64; MICROS]
+    ensures { λ r. ⌜ take n r ≡ map (distanceIn dim (take dim x)) (take n bodies) ⌝ }
 {
     let k = lists::cut(n, MICROS);
     let mut ds = [0.0; MICROS];
     let mut i: usize = 0;
     while i < k {
-        let cf = features[i];
+        let b = bodies[i];
+        let cf = b.cf;
         let mean = cf.mean;
         ds[i] = sq_euclidean(mean, x, dim);
         i += 1;
@@ -35,9 +31,9 @@ fn distances(
     ds
 }
 
-// By the first n features and their labels; a point of another length than dim, cut to 15, is refused.
+// By the first n bodies and their labels; a point of another length than dim, cut to 15, is refused.
 pub fn predict(
-    features: [Spherical; MICROS],
+    bodies: [Body; MICROS],
     n: usize,
     labels: [i64; MICROS],
     label_count: usize,
@@ -45,7 +41,7 @@ pub fn predict(
     dim: usize,
     x: &[f64],
 ) -> Prediction
-    ensures { λ r. ⌜ predictionSaid r ≡ predictOf (min dim maxDim) radius2 (seen dim n features) (take «label_count» labels) (now (x .entry)) ⌝ }
+    ensures { λ r. ⌜ predictionSaid r ≡ predictOf (min dim maxDim) radius2 (seen dim n bodies) (take «label_count» labels) (now (x .entry)) ⌝ }
 {
     let width = lists::cut(dim, MAX_DIM);
     let got = x.len();
@@ -56,7 +52,7 @@ pub fn predict(
         };
     }
     let p = model::padded(x);
-    let ds = distances(features, n, p, width);
+    let ds = distances(bodies, n, p, width);
     let label = label_for(ds, n, labels, label_count, radius2);
     Prediction::Label(label)
 }

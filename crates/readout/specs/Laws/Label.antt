@@ -9,8 +9,8 @@ use lib.IntN.{ℤ, negsuc}
 use lib.Ieee.{Float}
 use lib.ListN.{length}
 use Rattle.lists.specs.Laws.Maps.{map-length}
-use Rattle.feature.specs.declared.spherical.Spherical.{Spherical}
-use Rattle.model.specs.Fading.{distanceTo}
+use Rattle.model.specs.declared.body.Body.{Body}
+use Rattle.model.specs.Body.{distanceTo}
 use Rattle.model.specs.Nearest.{Near, nearestOf}
 use Rattle.model.specs.ReadOut.{labelNear, labelFor}
 use Rattle.readout.specs.declared.distances.Found.{Found}
@@ -19,16 +19,16 @@ use Rattle.readout.specs.Told.{labelFound, labelAmong}
 use Rattle.readout.specs.Laws.Nearest.{nearest-measured}
 
 module _ (radius2 : Float) (labels : List ℤ) where
-  label-found : (o : Option (Near Spherical)) → labelFound radius2 labels (foundOf o) ≡ labelNear radius2 labels o
+  label-found : (o : Option (Near Body)) → labelFound radius2 labels (foundOf o) ≡ labelNear radius2 labels o
   label-found none = refl
   label-found (some b) = refl
 
   pub label-measured :
-      (features : List Spherical) (x distances : List Float) → distances ≡ map (distanceTo x) features →
-      labelAmong radius2 distances labels ≡ labelFor radius2 features labels x
+      (bodies : List Body) (x distances : List Float) → distances ≡ map (distanceTo x) bodies →
+      labelAmong radius2 distances labels ≡ labelFor radius2 bodies labels x
   unfolding labelAmong labelFor
-  label-measured features x distances e =
+  label-measured bodies x distances e =
       ap₂ (λ (n : ℕ) (o : Found). cond (eqb (length labels) n) (labelFound radius2 labels o) (negsuc 0))
-      (ap length e ∙ map-length (distanceTo x) features)
-      (nearest-measured (distanceTo x) features distances e)
-      ∙ ap (λ (z : ℤ). cond (eqb (length labels) (length features)) z (negsuc 0)) (label-found (nearestOf (distanceTo x) features))
+      (ap length e ∙ map-length (distanceTo x) bodies)
+      (nearest-measured (distanceTo x) bodies distances e)
+      ∙ ap (λ (z : ℤ). cond (eqb (length labels) (length bodies)) z (negsuc 0)) (label-found (nearestOf (distanceTo x) bodies))

@@ -9,10 +9,10 @@ use Rattle.readout.proofs.prediction.distances.Statement.{statement}
 use Rattle.readout.proofs.prediction.distances.Tie as tie
 
 abbrev Inv-loop : tie.InvT-loop
-Inv-loop n x dim features k ds₀ i₀ ds i = Gathered (distanceIn dim (take dim x)) 64 n k features ds i
+Inv-loop n x dim bodies k ds₀ i₀ ds i = Gathered (distanceIn dim (take dim x)) 64 n k bodies ds i
 
 abbrev μ-loop : tie.MeasureT-loop
-μ-loop n x dim features k ds₀ i₀ ds i = k - i
+μ-loop n x dim bodies k ds₀ i₀ ds i = k - i
 
 cut-requires : tie.Need-cut-requires Inv-loop μ-loop
 cut-requires c κs = search needs
@@ -20,11 +20,11 @@ cut-requires c κs = search needs
 loop-holds : tie.Need-loop-holds Inv-loop μ-loop
 loop-holds c = gather-starts (c .cut .ensures) (omega arith) (search needs)
 
-mul-cf : tie.Need-mul-cf Inv-loop μ-loop
-mul-cf c = search needs
+mul-b : tie.Need-mul-b Inv-loop μ-loop
+mul-b c = search needs
 
-array-copy-out-cf : tie.Need-array-copy-out-cf Inv-loop μ-loop
-array-copy-out-cf c = search needs
+array-copy-out-b : tie.Need-array-copy-out-b Inv-loop μ-loop
+array-copy-out-b c = search needs
 
 sq-euclidean-requires : tie.Need-sq-euclidean-requires Inv-loop μ-loop
 sq-euclidean-requires c κs = search needs
@@ -42,7 +42,7 @@ loop-less : tie.Need-loop-less Inv-loop μ-loop
 loop-less c = search needs
 
 loop-again : tie.Need-loop-again Inv-loop μ-loop
-loop-again c = gather-goes (c .before .before .before .before .loop .inv) _ (c .before .before .before .loop-test .taken) (c .sq-euclidean .ensures)
+loop-again c = gather-goes (c .before .before .before .before .before .loop .inv) _ (c .before .before .before .before .loop-test .taken) (c .sq-euclidean .ensures)
 
 returns : tie.Need-returns Inv-loop μ-loop
 returns c = gather-ends (c .before .loop .inv) (c .loop-test .left)
@@ -55,8 +55,8 @@ distances-spec =
     μ-loop
     cut-requires
     loop-holds
-    mul-cf
-    array-copy-out-cf
+    mul-b
+    array-copy-out-b
     sq-euclidean-requires
     mul-ds
     array-write-ds

@@ -17,7 +17,7 @@ returns : tie.Need-returns
 returns c =
     let a = c .before .before .before .args in
     let w = c .before .cut in
-    predict-shape (a .dim) (a .n) (w .result) (w .ensures) (a .radius2) (a .features) (take (a .label-count) (a .labels)) (a .x .now) (c .if1 .taken)
+    predict-shape (a .dim) (a .n) (w .result) (w .ensures) (a .radius2) (a .bodies) (take (a .label-count) (a .labels)) (a .x .now) (c .if1 .taken)
 
 padded-requires : tie.Need-padded-requires
 padded-requires c κs = search needs
@@ -34,7 +34,7 @@ returns-2 c =
     let w = c .before .before .before .before .cut in
     let h = c .before .before .before .if1 .left in
     let p = c .before .before .padded in
-    predict-label (a .dim) (a .n) (w .result) (w .ensures) (a .radius2) (a .features) (take (a .label-count) (a .labels)) (a .x .now)
+    predict-label (a .dim) (a .n) (w .result) (w .ensures) (a .radius2) (a .bodies) (take (a .label-count) (a .labels)) (a .x .now)
     (take (w .result) (p .result)) _ _ h
     (point-is (a .x .now) (p .result) (w .result) h (omega (arith, w .ensures)) (p .ensures)) (c .before .distances .ensures)
     (toZ-ofZ (sfits-of {w = w64} (c .«label-for» .ok)) ∙ c .«label-for» .ensures)

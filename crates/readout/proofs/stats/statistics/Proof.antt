@@ -1,9 +1,6 @@
 -- `statistics` meets its contract. Assumes nothing.
-use mathlib.Core.Path.{_≡_, sym}
 use native.Mathlib.Omega.{arith}
 use borrow.Author.Needs.{needs}
-use lib.ListN.{length, take}
-use lib.Seq.{length-take-le}
 use Rattle.readout.proofs.Slices.{Counted, short-centres, short-weights, short-radii, all-written}
 use Rattle.readout.proofs.Centres.{means-wide, few}
 use Rattle.readout.proofs.stats.statistics.Statement.{statement}
@@ -11,18 +8,10 @@ use Rattle.readout.proofs.stats.statistics.Tie as tie
 
 counted :
     (c : tie.After-cut2) →
-    Counted (c .before .before .before .before .before .args .features) (c .before .before .before .before .before .args .t2)
-    (c .before .before .before .before .before .args .n) (c .before .cut .result) (c .before .before .before .before .before .args .dim) (c .cut2 .result)
+    Counted (c .before .before .before .before .before .args .bodies) (c .before .before .before .before .before .args .n) (c .before .cut .result) (c .before .before .before .before .before .args .dim) (c .cut2 .result)
 counted c =
     let s = c .before .before .before .before .before in
-    record {
-      end-is = c .before .cut .ensures;
-      w-is = c .cut2 .ensures;
-      wide = means-wide (s .args .features) _
-          (s .good .0 .1 .1);
-      features-long = omega arith;
-      weights-long = omega arith;
-    }
+    record { end-is = c .before .cut .ensures; w-is = c .cut2 .ensures; wide = means-wide (s .args .bodies) _ (s .good .0 .1 .1); long = omega arith }
 
 cut-requires : tie.Need-cut-requires
 cut-requires c κs = search needs
@@ -36,39 +25,24 @@ mul-if1 c = omega (arith, few (c .before .cut .result) (c .cut2 .result) (omega 
 returns : tie.Need-returns
 returns c =
     let a = c .before .before .before .before .before .before .args in
-    short-centres (counted (c .before)) (a .centres .now) (a .out-weights .now) (a .radii .now) (c .if1 .taken)
+    short-centres (a .lambda) (a .t) (counted (c .before)) (a .centres .now) (a .weights .now) (a .radii .now) (c .if1 .taken)
 
 returns-2 : tie.Need-returns-2
 returns-2 c =
     let a = c .before .before .before .before .before .before .before .args in
-    short-weights (counted (c .before .before)) (a .centres .now) (a .out-weights .now) (a .radii .now) (c .before .if1 .left) (c .if2 .taken)
+    short-weights (a .lambda) (a .t) (counted (c .before .before)) (a .centres .now) (a .weights .now) (a .radii .now) (c .before .if1 .left) (c .if2 .taken)
 
 returns-3 : tie.Need-returns-3
 returns-3 c =
     let a = c .before .before .before .before .before .before .before .before .args in
-    short-radii (counted (c .before .before .before)) (a .centres .now) (a .out-weights .now) (a .radii .now) (c .before .before .if1 .left)
+    short-radii (a .lambda) (a .t) (counted (c .before .before .before)) (a .centres .now) (a .weights .now) (a .radii .now) (c .before .before .if1 .left)
     (c .before .if2 .left) (c .if3 .taken)
 
 write-centres-requires : tie.Need-write-centres-requires
 write-centres-requires c κs = search needs
 
-array-share-prefix-weights : tie.Need-array-share-prefix-weights
-array-share-prefix-weights c = search needs
-
-slice-aggregate-write : tie.Need-slice-aggregate-write
-slice-aggregate-write c =
-    let a = c .before .before .before .before .before .before .before .before .before .before .before .before .before .args in
-    sym (length-take-le (c .before .before .before .before .before .before .before .before .before .cut .result) (a .t2) (omega arith))
-
-write-requires : tie.Need-write-requires
-write-requires c κs =
-    let a = c .before .before .before .before .before .before .before .before .before .before .before .before .before .before .args in
-    let q : length (take (c .before .before .before .before .before .before .before .before .before .before .cut .result) (a .t2)) ≡ c .before .before .before .before .before .before .before .before .before .before .cut .result =
-    length-take-le (c .before .before .before .before .before .before .before .before .before .before .cut .result) (a .t2) (omega arith) in
-    omega arith
-
-write-radii-requires : tie.Need-write-radii-requires
-write-radii-requires c κs = search needs
+write-figures-requires : tie.Need-write-figures-requires
+write-figures-requires c κs = search needs
 
 same-length : tie.Need-same-length
 same-length c = search needs
@@ -81,9 +55,11 @@ same-length-3 c = search needs
 
 returns-4 : tie.Need-returns-4
 returns-4 c =
-    let a =
-    c .before .before .before .before .before .before .before .before .before .before .before .before .before .before .before .before .before .before .before .before .before .args in
-    all-written (counted (c .before .before .before .before .before .before .before .before .before .before .before .before .before .before .before .before)) (a .centres .now) (a .out-weights .now) (a .radii .now) (c .before .before .before .before .before .before .before .before .before .before .before .before .before .before .before .if1 .left) (c .before .before .before .before .before .before .before .before .before .before .before .before .before .before .if2 .left) (c .before .before .before .before .before .before .before .before .before .before .before .before .before .if3 .left) _ _ _ (c .before .before .before .before .before .before .before .before .before .before .before .write-centres .ensures) (c .before .before .before .before .before .before .write .ensures) (c .before .before .write-radii .ensures)
+    let k = c .before .before .before .before .before .before .before .before .before .before .before .before .before .before in
+    let a = k .before .before .before .before .before .args in
+    all-written (a .lambda) (a .t) (counted k) (a .centres .now) (a .weights .now) (a .radii .now) (c .before .before .before .before .before .before .before .before .before .before .before .before .before .if1 .left)
+    (c .before .before .before .before .before .before .before .before .before .before .before .before .if2 .left) (c .before .before .before .before .before .before .before .before .before .before .before .if3 .left) _ _ _ (c .before .before .before .before .before .before .before .before .before .write-centres .ensures)
+    (c .before .before .before .before .write-figures .ensures .0) (c .before .before .before .before .write-figures .ensures .1)
 
 pub statistics-spec : {M : Type 1} → statement M
 statistics-spec =
@@ -96,10 +72,7 @@ statistics-spec =
     returns-2
     returns-3
     write-centres-requires
-    array-share-prefix-weights
-    slice-aggregate-write
-    write-requires
-    write-radii-requires
+    write-figures-requires
     same-length
     same-length-2
     same-length-3

@@ -10,10 +10,10 @@ use Rattle.readout.proofs.stats.write_centres.Statement.{statement}
 use Rattle.readout.proofs.stats.write_centres.Tie as tie
 
 abbrev Inv-loop : tie.InvT-loop
-Inv-loop end width out₀ features i₀ out i = (i ≤ end) × (out ≡ partly (centresDue width end features) out₀ (i * width))
+Inv-loop end width out₀ bodies i₀ out i = (i ≤ end) × (out ≡ partly (centresDue width end bodies) out₀ (i * width))
 
 abbrev μ-loop : tie.MeasureT-loop
-μ-loop end width out₀ features i₀ out i = end - i
+μ-loop end width out₀ bodies i₀ out i = end - i
 
 turn :
     (c : tie.At-loop Inv-loop μ-loop) →
@@ -28,36 +28,36 @@ loop-holds c =
     let a = c .before .args in
     (omega arith, turn-start (a .width) (a .«end») (a .t1) (a .out .now))
 
-mul-cf : tie.Need-mul-cf Inv-loop μ-loop
-mul-cf c = search needs
+mul-b : tie.Need-mul-b Inv-loop μ-loop
+mul-b c = search needs
 
-array-copy-out-cf : tie.Need-array-copy-out-cf Inv-loop μ-loop
-array-copy-out-cf c = search needs
+array-copy-out-b : tie.Need-array-copy-out-b Inv-loop μ-loop
+array-copy-out-b c = search needs
 
 mul-at : tie.Need-mul-at Inv-loop μ-loop
-mul-at c = omega (arith, few (c .before .before .before .loop .i) (c .before .before .before .before .before .args .width) (omega arith) (omega arith))
+mul-at c = omega (arith, few (c .before .before .before .before .loop .i) (c .before .before .before .before .before .before .args .width) (omega arith) (omega arith))
 
 array-share-prefix-mean : tie.Need-array-share-prefix-mean Inv-loop μ-loop
-array-share-prefix-mean c = mean-room (turn (c .before .before .before)) (c .before .before .loop-test .taken) _
+array-share-prefix-mean c = mean-room (turn (c .before .before .before .before)) (c .before .before .before .loop-test .taken) _
 
 slice-aggregate-write : tie.Need-slice-aggregate-write Inv-loop μ-loop
-slice-aggregate-write c = sym (mean-count (turn (c .before .before .before .before)) (c .before .before .before .loop-test .taken) _)
+slice-aggregate-write c = sym (mean-count (turn (c .before .before .before .before .before)) (c .before .before .before .before .loop-test .taken) _)
 
 mul-write : tie.Need-mul-write Inv-loop μ-loop
 mul-write c =
-    omega (arith, few (c .before .before .before .before .loop .i) (c .before .before .before .before .before .before .args .width) (omega arith) (omega arith))
+    omega (arith, few (c .before .before .before .before .before .loop .i) (c .before .before .before .before .before .before .before .args .width) (omega arith) (omega arith))
 
 sub-write : tie.Need-sub-write Inv-loop μ-loop
-sub-write c = omega (arith, turn-room (turn (c .before .before .before .before)) (c .before .before .before .loop-test .taken))
+sub-write c = omega (arith, turn-room (turn (c .before .before .before .before .before)) (c .before .before .before .before .loop-test .taken))
 
 part-write-start : tie.Need-part-write-start Inv-loop μ-loop
-part-write-start c = omega (arith, turn-room (turn (c .before .before .before .before)) (c .before .before .before .loop-test .taken))
+part-write-start c = omega (arith, turn-room (turn (c .before .before .before .before .before)) (c .before .before .before .before .loop-test .taken))
 
 part-write-end : tie.Need-part-write-end Inv-loop μ-loop
 part-write-end c = search needs
 
 write-requires : tie.Need-write-requires Inv-loop μ-loop
-write-requires c κs = mean-fits (turn (c .before .before .before .before .before)) (c .before .before .before .before .loop-test .taken) _
+write-requires c κs = mean-fits (turn (c .before .before .before .before .before .before)) (c .before .before .before .before .before .loop-test .taken) _
 
 add-i : tie.Need-add-i Inv-loop μ-loop
 add-i c = search needs
@@ -68,8 +68,8 @@ loop-less c = search needs
 loop-again : tie.Need-loop-again Inv-loop μ-loop
 loop-again c = (
   omega arith,
-  turn-step (turn (c .before .before .before .before .before .before .before .before))
-      (c .before .before .before .before .before .before .before .loop-test .taken) _ _ (c .before .before .write .ensures),
+  turn-step (turn (c .before .before .before .before .before .before .before .before .before))
+      (c .before .before .before .before .before .before .before .before .loop-test .taken) _ _ (c .before .before .write .ensures),
 )
 
 same-length : tie.Need-same-length Inv-loop μ-loop
@@ -85,8 +85,8 @@ write-centres-spec =
     Inv-loop
     μ-loop
     loop-holds
-    mul-cf
-    array-copy-out-cf
+    mul-b
+    array-copy-out-b
     mul-at
     array-share-prefix-mean
     slice-aggregate-write
