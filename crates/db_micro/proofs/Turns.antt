@@ -13,7 +13,7 @@ use Rattle.model.specs.declared.micro.DbMicro.{DbMicro}
 use Rattle.model.specs.DbCluster.{storedWeight}
 
 module _ (id : MicroId) (n i : ℕ) (ms : List DbMicro) where
-  pub weight-here : (z : DbMicro) → i < n → n ≤ length ms → getD ms i z .id .0 ≡ id .0 → storedWeight (rest n i ms) id ≡ getD ms i z .cf .w
+  pub weight-here : (z : DbMicro) → i < n → n ≤ length ms → getD ms i z .id .0 ≡ id .0 → storedWeight (rest n i ms) id ≡ getD ms i z .body .cf .w
   unfolding storedWeight
   weight-here z h g e = rw (rest-step n i ms z, eq-eqb _ _ e)
 

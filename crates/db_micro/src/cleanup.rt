@@ -11,8 +11,8 @@ ghost use Rattle.db_micro.specs.Listed.{microsTold, microsOf};
 fn stays(m: DbMicro, lambda: f64, t: f64, floor: f64) -> bool
     ensures { λ r. ⌜ r ≡ microStays lambda floor t m ⌝ }
 {
-    let cf = m.cf;
-    !(model::faded(cf.w, lambda, t, m.last) < floor)
+    let b = m.body;
+    !(b.faded_weight(lambda, t) < floor)
 }
 
 pub struct Micros {

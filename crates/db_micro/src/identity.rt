@@ -1,5 +1,6 @@
 // Single parts of the micro-clusters, in the order of the list.
 use feature::Spherical;
+use model::Body;
 use model::DbMicro;
 use model::MICROS;
 use model::MicroId;
@@ -7,7 +8,7 @@ ghost use mathlib.Core.Path.{_≡_};
 ghost use mathlib.Core.List.{map};
 ghost use lib.ListN.{take};
 ghost use Rattle.model.specs.DbInsert.{idOf};
-ghost use Rattle.db_micro.specs.Held.{featureOf};
+ghost use Rattle.db_micro.specs.Held.{bodyOf};
 
 // The creation numbers.
 pub fn ids_of(micros: [DbMicro; MICROS], n: usize) -> [MicroId; MICROS]
@@ -25,18 +26,22 @@ pub fn ids_of(micros: [DbMicro; MICROS], n: usize) -> [MicroId; MICROS]
     ids
 }
 
-pub(crate) fn features(micros: [DbMicro; MICROS], n: usize) -> [Spherical; MICROS]
-    ensures { λ r. ⌜ take n r ≡ map featureOf (take n micros) ⌝ }
+// What both streams keep of each.
+pub fn bodies(micros: [DbMicro; MICROS], n: usize) -> [Body; MICROS]
+    ensures { λ r. ⌜ take n r ≡ map bodyOf (take n micros) ⌝ }
 {
     let k = lists::cut(n, MICROS);
-    let none = Spherical::new();
-    let mut cfs = [none; MICROS];
+    let none = Body {
+        cf: Spherical::new(),
+        last: 0.0,
+    };
+    let mut all = [none; MICROS];
     let mut i: usize = 0;
     while i < k {
         let m = micros[i];
-        let cf = m.cf;
-        cfs[i] = cf;
+        let b = m.body;
+        all[i] = b;
         i += 1;
     }
-    cfs
+    all
 }

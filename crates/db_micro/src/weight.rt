@@ -6,30 +6,8 @@ ghost use mathlib.Core.Path.{_≡_};
 ghost use mathlib.Core.List.{map};
 ghost use lib.ListN.{take};
 ghost use Rattle.float.specs.Rounded.{_⊕_, _⊘_, two};
-ghost use Rattle.model.specs.DbInsert.{fadedWeight};
 ghost use Rattle.model.specs.DbCluster.{storedWeight};
 ghost use Rattle.db_micro.specs.Held.{reaches};
-
-// Faded to t.
-pub(crate) fn faded_weights(
-    micros: [DbMicro; MICROS],
-    n: usize,
-    lambda: f64,
-    t: f64,
-) -> [f64; MICROS]
-    ensures { λ r. ⌜ take n r ≡ map (fadedWeight lambda t) (take n micros) ⌝ }
-{
-    let k = lists::cut(n, MICROS);
-    let mut weights = [0.0; MICROS];
-    let mut i: usize = 0;
-    while i < k {
-        let m = micros[i];
-        let cf = m.cf;
-        weights[i] = model::faded(cf.w, lambda, t, m.last);
-        i += 1;
-    }
-    weights
-}
 
 // Which faded weights reach min_weight.
 pub fn strong_ones(
@@ -46,8 +24,8 @@ pub fn strong_ones(
     let mut i: usize = 0;
     while i < k {
         let m = micros[i];
-        let cf = m.cf;
-        strong[i] = min_weight <= model::faded(cf.w, lambda, t, m.last);
+        let b = m.body;
+        strong[i] = min_weight <= b.faded_weight(lambda, t);
         i += 1;
     }
     strong
@@ -63,8 +41,7 @@ fn stored_weight(micros: [DbMicro; MICROS], n: usize, id: MicroId) -> f64
         let m = micros[i];
         let held = m.id;
         if held.0 == id.0 {
-            let cf = m.cf;
-            return cf.w;
+            return m.body.cf.w;
         }
         i += 1;
     }

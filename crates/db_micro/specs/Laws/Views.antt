@@ -13,4 +13,4 @@ use Rattle.db_micro.specs.Held.{cutTo}
 pub weight-view : (d : ℕ) (l : List DbMicro) (id : MicroId) → storedWeight l id ≡ storedWeight (map (cutTo d) l) id
 unfolding storedWeight
 weight-view d [] id = refl
-weight-view d (m ∷ ms) id = ap (λ (w : Float). cond (eqb (m .id .0) (id .0)) (m .cf .w) w) (weight-view d ms id)
+weight-view d (m ∷ ms) id = ap (λ (w : Float). cond (eqb (m .id .0) (id .0)) (m .body .cf .w) w) (weight-view d ms id)

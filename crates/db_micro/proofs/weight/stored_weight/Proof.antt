@@ -35,10 +35,10 @@ array-copy-out-m c = search needs
 
 returns : tie.Need-returns Inv-loop μ-loop
 returns c =
-    let k = c .before .before .before .before .before .before .before .loop in
-    let a = c .before .before .before .before .before .before .before .before .before .args in
-    sym (weight-here (a .id) (c .before .before .before .before .before .before .before .before .cut .result) (k .i) (a .t1) _
-    (c .before .before .before .before .before .before .loop-test .taken) (omega arith) (c .before .if1 .taken)) ∙ k .inv .2
+    let k = c .before .before .before .before .before .before .loop in
+    let a = c .before .before .before .before .before .before .before .before .args in
+    sym (weight-here (a .id) (c .before .before .before .before .before .before .before .cut .result) (k .i) (a .t1) _
+    (c .before .before .before .before .before .loop-test .taken) (omega arith) (c .if1 .taken)) ∙ k .inv .2
 
 add-i : tie.Need-add-i Inv-loop μ-loop
 add-i c = search needs

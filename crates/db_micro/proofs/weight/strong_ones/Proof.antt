@@ -27,8 +27,8 @@ mul-m c = search needs
 array-copy-out-m : tie.Need-array-copy-out-m Inv-loop μ-loop
 array-copy-out-m c = search needs
 
-faded-requires : tie.Need-faded-requires Inv-loop μ-loop
-faded-requires c κs = search needs
+faded-weight-requires : tie.Need-faded-weight-requires Inv-loop μ-loop
+faded-weight-requires c κs = search needs
 
 array-write-strong : tie.Need-array-write-strong Inv-loop μ-loop
 array-write-strong c = search needs
@@ -42,7 +42,7 @@ loop-less c = search needs
 loop-again : tie.Need-loop-again Inv-loop μ-loop
 loop-again c =
     gather-goes (c .before .before .before .before .loop .inv) _ (c .before .before .before .loop-test .taken)
-    (ap (λ (w : Float). le (c .before .before .before .before .before .before .args .«min-weight») w) (c .faded .ensures))
+    (ap (λ (w : Float). le (c .before .before .before .before .before .before .args .«min-weight») w) (c .faded-weight .ensures))
 
 returns : tie.Need-returns Inv-loop μ-loop
 returns c = gather-ends (c .before .loop .inv) (omega arith)
@@ -57,7 +57,7 @@ strong-ones-spec =
     loop-holds
     mul-m
     array-copy-out-m
-    faded-requires
+    faded-weight-requires
     array-write-strong
     add-i
     loop-less

@@ -1,18 +1,18 @@
--- `features` meets its contract. Assumes nothing.
+-- `bodies` meets its contract. Assumes nothing.
 use Prim.Native.Nat.{_-_}
 use mathlib.Core.Path.{refl}
 use native.Mathlib.Omega.{arith}
-use Rattle.db_micro.specs.Held.{featureOf}
+use Rattle.db_micro.specs.Held.{bodyOf}
 use Rattle.lists.specs.Laws.Counted.{Gathered, gather-starts, gather-goes, gather-ends}
 use borrow.Author.Needs.{needs}
-use Rattle.db_micro.proofs.identity.features.Statement.{statement}
-use Rattle.db_micro.proofs.identity.features.Tie as tie
+use Rattle.db_micro.proofs.identity.bodies.Statement.{statement}
+use Rattle.db_micro.proofs.identity.bodies.Tie as tie
 
 abbrev Inv-loop : tie.InvT-loop
-Inv-loop n micros k cfs₀ i₀ cfs i = Gathered featureOf 64 n k micros cfs i
+Inv-loop n micros k all₀ i₀ all i = Gathered bodyOf 64 n k micros all i
 
 abbrev μ-loop : tie.MeasureT-loop
-μ-loop n micros k cfs₀ i₀ cfs i = k - i
+μ-loop n micros k all₀ i₀ all i = k - i
 
 cut-requires : tie.Need-cut-requires Inv-loop μ-loop
 cut-requires c κs = search needs
@@ -29,11 +29,11 @@ mul-m c = search needs
 array-copy-out-m : tie.Need-array-copy-out-m Inv-loop μ-loop
 array-copy-out-m c = search needs
 
-mul-cfs : tie.Need-mul-cfs Inv-loop μ-loop
-mul-cfs c = search needs
+mul-all : tie.Need-mul-all Inv-loop μ-loop
+mul-all c = search needs
 
-array-set-from-cfs : tie.Need-array-set-from-cfs Inv-loop μ-loop
-array-set-from-cfs c = search needs
+array-set-from-all : tie.Need-array-set-from-all Inv-loop μ-loop
+array-set-from-all c = search needs
 
 add-i : tie.Need-add-i Inv-loop μ-loop
 add-i c = search needs
@@ -47,8 +47,8 @@ loop-again c = gather-goes (c .before .before .before .loop .inv) _ (c .before .
 returns : tie.Need-returns Inv-loop μ-loop
 returns c = gather-ends (c .before .loop .inv) (omega arith)
 
-pub features-spec : {M : Type 1} → statement M
-features-spec =
+pub bodies-spec : {M : Type 1} → statement M
+bodies-spec =
     tie.close
     (tie.spec
     Inv-loop
@@ -58,8 +58,8 @@ features-spec =
     loop-holds
     mul-m
     array-copy-out-m
-    mul-cfs
-    array-set-from-cfs
+    mul-all
+    array-set-from-all
     add-i
     loop-less
     loop-again
