@@ -1,4 +1,4 @@
--- The definitions of the least distance and of a filter, as a counting loop goes through them; a micro-cluster from its parts.
+-- The definitions of the least distance and of a filter, as a counting loop goes through them.
 use Prim.Native.Nat.{ℕ, _+_, _≤_, _<_, min}
 use native.Mathlib.Numerals.{add-one}
 use native.Mathlib.Omega.{arith}
@@ -12,12 +12,7 @@ use Rattle.float.specs.Order.{smaller}
 use Rattle.lists.specs.Laws.Rest.{rest-start, rest-step, rest-end, cut-take}
 use Rattle.lists.specs.Rest.{rest}
 use Rattle.drift.specs.declared.Nearest.the-variants.{Nothing, Distance}
-use Rattle.feature.specs.declared.spherical.Spherical.{Spherical}
-use Rattle.feature.specs.Feature.{maxDim}
-use Rattle.model.specs.declared.micro.MicroId.{MicroId}
-use Rattle.model.specs.declared.micro.DbMicro.{DbMicro}
-use Rattle.model.specs.Fading.{absorbing, birth}
-use Rattle.model.specs.DbInsert.{leastOf, absorbs, newborn}
+use Rattle.model.specs.DbInsert.{leastOf}
 use Rattle.lists.specs.Retain.{retain}
 
 -- ---- the least distance
@@ -47,14 +42,3 @@ module _ {A B : Type 0} (f : A → B) (p : A → Bool) (n i : ℕ) (l : List A) 
 pub filter-end : {A B : Type 0} (f : A → B) (p : A → Bool) (n i : ℕ) (l : List A) (r : List B) → n ≤ i → r ++ map f (retain p (rest n i l)) ≡ r
 unfolding retain
 filter-end f p n i l r h = rw (rest-end n i l) (append-nil r)
-
--- ---- a micro-cluster put together from its parts
-pub absorbs-is :
-    (lambda t : Float) (x : List Float) (m : DbMicro) (cf : Spherical) → cf ≡ absorbing lambda t (m .last) x (m .cf) →
-    record { cf = cf; last = t; id = m .id } ≡ absorbs lambda t x m
-absorbs-is lambda t x m cf e = rw e
-
-pub newborn-is :
-    (x : List Float) (t : Float) (id : MicroId) (cf : Spherical) → cf ≡ birth maxDim x →
-    record { cf = cf; last = t; id = id } ≡ newborn maxDim id t x
-newborn-is x t id cf e = rw e

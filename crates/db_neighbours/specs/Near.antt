@@ -3,11 +3,11 @@ use mathlib.Core.Bool.{cond}
 use mathlib.Core.List.{List, [], _∷_, map}
 use lib.Ieee.{Float, le}
 use Rattle.model.specs.declared.micro.DbMicro.{DbMicro}
-use Rattle.model.specs.Fading.{distanceTo}
+use Rattle.model.specs.Body.{distanceTo}
 
 -- "all measured before any changes"
 abbrev pub distancesTo : List Float → List DbMicro → List Float
-distancesTo x ms = map (λ (m : DbMicro). distanceTo x (m .cf)) ms
+distancesTo x ms = map (λ (m : DbMicro). distanceTo x (m .body)) ms
 
 -- all, with f of those at most r2 away
 unfoldable pub absorbNear : (r2 : Float) → (DbMicro → DbMicro) → List Float → List DbMicro → List DbMicro

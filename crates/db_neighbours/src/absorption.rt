@@ -1,6 +1,7 @@
 // How a point joins the micro-clusters.
 use crate::scan::Scan;
 use feature::MAX_DIM;
+use model::Body;
 use model::DbMicro;
 use model::MICROS;
 use model::MicroId;
@@ -15,18 +16,22 @@ ghost use Rattle.db_neighbours.specs.Placing.{placedTold, placedOf};
 fn newborn(x: [f64; MAX_DIM], dim: usize, t: f64, id: MicroId) -> DbMicro
     ensures { λ r. ⌜ r ≡ doc.newborn maxDim id t (take dim x) ⌝ }
 {
-    let cf = model::birth(x, dim);
-    DbMicro { cf, last: t, id }
+    DbMicro {
+        body: Body::birth(x, dim, t),
+        id,
+    }
 }
 
 // Faded to t, with the point.
 fn absorbed(m: DbMicro, x: [f64; MAX_DIM], dim: usize, lambda: f64, t: f64) -> DbMicro
     ensures { λ r. ⌜ r ≡ absorbs lambda t (take dim x) m ⌝ }
 {
-    let old = m.cf;
-    let cf = model::absorbing(old, lambda, t, m.last, x, dim);
+    let old = m.body;
     let id = m.id;
-    DbMicro { cf, last: t, id }
+    DbMicro {
+        body: old.absorbing(x, dim, lambda, t),
+        id,
+    }
 }
 
 // The micro-clusters after a point, how many they are, and the next creation number.

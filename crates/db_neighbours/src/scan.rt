@@ -41,7 +41,7 @@ pub fn scan_for(micros: [DbMicro; MICROS], n: usize, x: [f64; MAX_DIM], dim: usi
     let mut i: usize = 0;
     while i < end {
         let m = micros[i];
-        let cf = m.cf;
+        let cf = m.body.cf;
         let mean = cf.mean;
         let d = sq_euclidean(mean, x, dim);
         distances[i] = d;

@@ -1,5 +1,6 @@
 -- What follows from the definitions, for proofs.
 pub mod Tick
+pub mod Body
 pub mod Periods
 pub mod Tp
 pub mod Insert

@@ -8,13 +8,12 @@ use lib.ListN.{length}
 use Rattle.float.specs.Rounded.{_⊗_}
 use Rattle.lists.specs.Retain.{retain}
 use Rattle.lists.specs.Laws.Maps.{map-retain}
-use Rattle.feature.specs.declared.spherical.Spherical.{Spherical}
-use Rattle.feature.specs.Feature.{maxDim, empty, decayed, pushed}
-use Rattle.feature.specs.Fade.{fadeOf}
-use Rattle.feature.specs.Laws.Within.{pushed-within, empty-within}
+use Rattle.feature.specs.Feature.{maxDim}
+use Rattle.model.specs.declared.body.Body.{Body}
 use Rattle.model.specs.declared.micro.MicroId.{MicroId}
 use Rattle.model.specs.declared.micro.DbMicro.{DbMicro}
 use Rattle.model.specs.DbInsert.{idOf, isNeighbour, absorbs, absorbed, newborn}
+use Rattle.model.specs.Laws.Body.{birth-in, absorbing-in}
 use Rattle.db_micro.specs.Held.{cutTo}
 use Rattle.db_neighbours.specs.Near.{distancesTo, absorbNear}
 
@@ -31,7 +30,7 @@ neighbours-view r x d l = sym (map-map idOf (cutTo d) (retain (isNear r x d) l))
 module _ (d : ℕ) (x : List Float) (e : length x ≡ d) where
   absorbs-view : (lambda t : Float) (m : DbMicro) → cutTo d (absorbs lambda t x m) ≡ absorbs lambda t x (cutTo d m)
   absorbs-view lambda t m =
-      ap (λ (s : Spherical). record { cf = s; last = t; id = m .id }) (pushed-within d (decayed (m .cf) (fadeOf lambda t (m .last))) x e)
+      ap (λ (b : Body). record { body = b; id = m .id }) (absorbing-in d t x e lambda (m .body))
 
   pub absorb-view :
       (r lambda t : Float) (l : List DbMicro) →
@@ -46,4 +45,4 @@ module _ (d : ℕ) (x : List Float) (e : length x ≡ d) where
 
   pub newborn-view : d ≤ maxDim → (t : Float) (id : MicroId) → cutTo d (newborn maxDim id t x) ≡ newborn d id t x
   newborn-view h t id =
-      ap (λ (s : Spherical). record { cf = s; last = t; id = id }) (pushed-within d (empty maxDim) x e ∙ ap (λ (s : Spherical). pushed s x) (empty-within d h))
+      ap (λ (b : Body). record { body = b; id = id }) (birth-in d t x e h)

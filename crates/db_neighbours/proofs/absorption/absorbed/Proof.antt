@@ -1,6 +1,4 @@
 -- `absorbed` meets its contract. Assumes nothing.
-use lib.ListN.{take}
-use Rattle.db_neighbours.proofs.Turns.{absorbs-is}
 use borrow.Author.Needs.{needs}
 use Rattle.db_neighbours.proofs.absorption.absorbed.Statement.{statement}
 use Rattle.db_neighbours.proofs.absorption.absorbed.Tie as tie
@@ -9,9 +7,7 @@ absorbing-requires : tie.Need-absorbing-requires
 absorbing-requires c κs = search needs
 
 returns : tie.Need-returns
-returns c =
-    let a = c .before .before .before .args in
-    absorbs-is (a .lambda) (a .t) (take (a .dim) (a .x)) (a .m) _ (c .before .absorbing .ensures)
+returns c = rw (c .absorbing .ensures)
 
 pub absorbed-spec : {M : Type 1} → statement M
 absorbed-spec = tie.close (tie.spec absorbing-requires returns)

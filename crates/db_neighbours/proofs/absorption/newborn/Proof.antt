@@ -1,6 +1,4 @@
 -- `newborn` meets its contract. Assumes nothing.
-use lib.ListN.{take}
-use Rattle.db_neighbours.proofs.Turns.{newborn-is}
 use borrow.Author.Needs.{needs}
 use Rattle.db_neighbours.proofs.absorption.newborn.Statement.{statement}
 use Rattle.db_neighbours.proofs.absorption.newborn.Tie as tie
@@ -9,9 +7,7 @@ birth-requires : tie.Need-birth-requires
 birth-requires c κs = search needs
 
 returns : tie.Need-returns
-returns c =
-    let a = c .before .args in
-    newborn-is (take (a .dim) (a .x)) (a .t) (a .id) _ (c .birth .ensures)
+returns c = rw (c .birth .ensures)
 
 pub newborn-spec : {M : Type 1} → statement M
 newborn-spec = tie.close (tie.spec birth-requires returns)

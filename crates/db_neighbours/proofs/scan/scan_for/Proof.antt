@@ -11,7 +11,7 @@ use Rattle.lists.specs.Retain.{retain}
 use Rattle.lists.specs.Laws.Rest.{cut-start}
 use Rattle.lists.specs.Rest.{rest}
 use Rattle.model.specs.declared.micro.DbMicro.{DbMicro}
-use Rattle.model.specs.Fading.{distanceTo}
+use Rattle.model.specs.Body.{distanceTo}
 use Rattle.model.specs.DbInsert.{idOf}
 use Rattle.db_micro.specs.Held.{cutTo, held}
 use Rattle.db_neighbours.specs.Laws.Views.{isNear, neighbours-view}
@@ -24,7 +24,7 @@ use Rattle.db_neighbours.proofs.scan.scan_for.Tie as tie
 
 abbrev Inv-loop : tie.InvT-loop
 Inv-loop n x dim r micros end r2 distances₀ ids₀ k₀ i₀ distances ids k i =
-    Gathered (λ (m : DbMicro). distanceTo (take dim x) (cutTo dim m .cf)) 64 n end micros distances i
+    Gathered (λ (m : DbMicro). distanceTo (take dim x) (cutTo dim m .body)) 64 n end micros distances i
     × (k ≤ i) × (length ids ≡ 64)
     × (take k ids ++ map idOf (retain (isNear r (take dim x) dim) (rest end i micros)) ≡ map idOf (retain (isNear r (take dim x) dim) (take n micros)))
 
@@ -111,7 +111,7 @@ returns c =
     let x = take (a .dim) (a .x) in
     let few : k .k ≤ length (k .ids) = omega (arith, k .inv .0 .most, k .inv .0 .cut, k .inv .1, k .inv .2) in
     scanned (a .r) x (held (a .dim) (a .n) (a .t1)) (a .n) _
-    (gather-ends (k .inv .0) (omega arith) ∙ sym (map-map (λ (m : DbMicro). distanceTo x (m .cf)) (cutTo (a .dim)) (take (a .n) (a .t1))))
+    (gather-ends (k .inv .0) (omega arith) ∙ sym (map-map (λ (m : DbMicro). distanceTo x (m .body)) (cutTo (a .dim)) (take (a .n) (a .t1))))
     (c .least .ensures)
     (sym (filter-end idOf (isNear (a .r) x (a .dim)) (c .before .before .before .cut .result) (k .i) (a .t1) (take (k .k) (k .ids)) (omega arith))
     ∙ k .inv .3 ∙ neighbours-view (a .r) x (a .dim) (take (a .n) (a .t1)))
