@@ -1,3 +1,4 @@
 pub mod Held
+pub mod Pruned
 pub mod Tried
 pub mod Laws

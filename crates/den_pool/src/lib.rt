@@ -4,13 +4,12 @@ mod pool;
 mod pruning;
 mod trial;
 
-pub use micro::faded_weight;
 pub use micro::newborn;
 pub use pool::Pool;
+pub use pool::bodies;
 pub use pool::faded_weights;
-pub use pool::features;
 pub use pool::without;
-pub use pruning::prune_outliers;
-pub use pruning::prune_potential;
+pub use pruning::Rank;
+pub use pruning::pruned;
 pub use trial::Trial;
 pub use trial::try_merge;

@@ -1,31 +1,31 @@
 // The array of a pool, and how many of its places are held.
-use crate::micro::faded_weight;
 use feature::MAX_DIM;
 use feature::Spherical;
+use model::Body;
+use model::DenMicro;
 use model::MICROS;
-use model::Micro;
 ghost use mathlib.Core.Path.{_≡_};
 ghost use mathlib.Core.List.{map};
 ghost use lib.ListN.{length, take};
 ghost use Rattle.lists.specs.Retain as list;
-ghost use Rattle.model.specs.DenInsert.{fadedWeight};
-ghost use Rattle.den_pool.specs.Held.{held, distanceIn, featureOf};
+ghost use Rattle.den_pool.specs.Held.{held, bodyOf, weightOf, distanceOf};
 
 pub struct Pool {
-    pub micros: [Micro; MICROS],
+    pub micros: [DenMicro; MICROS],
     pub count: usize,
 }
 
 // Each one's weight, faded to t.
-pub fn faded_weights(pool: [Micro; MICROS], n: usize, lambda: f64, t: f64) -> [f64; MICROS]
-    ensures { λ r. ⌜ take n r ≡ map (fadedWeight lambda t) (take n pool) ⌝ }
+pub fn faded_weights(pool: [DenMicro; MICROS], n: usize, lambda: f64, t: f64) -> [f64; MICROS]
+    ensures { λ r. ⌜ take n r ≡ map (weightOf lambda t) (take n pool) ⌝ }
 {
     let k = lists::cut(n, MICROS);
     let mut w = [0.0; MICROS];
     let mut i: usize = 0;
     while i < k {
         let m = pool[i];
-        w[i] = faded_weight(m, lambda, t);
+        let b = m.body;
+        w[i] = b.faded_weight(lambda, t);
         i += 1;
     }
     w
@@ -33,19 +33,19 @@ pub fn faded_weights(pool: [Micro; MICROS], n: usize, lambda: f64, t: f64) -> [f
 
 // Each one's squared distance from the point.
 pub(crate) fn distances(
-    pool: [Micro; MICROS],
+    pool: [DenMicro; MICROS],
     n: usize,
     x: [f64; MAX_DIM],
     dim: usize,
 ) -> [f64; MICROS]
-    ensures { λ r. ⌜ take n r ≡ map (distanceIn dim (take dim x)) (take n pool) ⌝ }
+    ensures { λ r. ⌜ take n r ≡ map (distanceOf dim (take dim x)) (take n pool) ⌝ }
 {
     let k = lists::cut(n, MICROS);
     let mut ds = [0.0; MICROS];
     let mut i: usize = 0;
     while i < k {
         let m = pool[i];
-        let cf = m.cf;
+        let cf = m.body.cf;
         let mean = cf.mean;
         ds[i] = feature::sq_euclidean(mean, x, dim);
         i += 1;
@@ -54,7 +54,7 @@ pub(crate) fn distances(
 }
 
 // All but the one at the place, in order.
-pub fn without(mut pool: [Micro; MICROS], n: usize, place: usize) -> Pool
+pub fn without(mut pool: [DenMicro; MICROS], n: usize, place: usize) -> Pool
     ensures { λ r. ⌜ held r ≡ list.without place (take n pool) ⌝ }
     ensures counted { λ r. ⌜ r .count ≡ length (held r) ⌝ }
 {
@@ -77,18 +77,22 @@ pub fn without(mut pool: [Micro; MICROS], n: usize, place: usize) -> Pool
     }
 }
 
-// Each one's feature.
-pub fn features(pool: [Micro; MICROS], n: usize) -> [Spherical; MICROS]
-    ensures { λ r. ⌜ take n r ≡ map featureOf (take n pool) ⌝ }
+// What both streams keep of each.
+pub fn bodies(pool: [DenMicro; MICROS], n: usize) -> [Body; MICROS]
+    ensures { λ r. ⌜ take n r ≡ map bodyOf (take n pool) ⌝ }
 {
     let k = lists::cut(n, MICROS);
-    let mut fs = [Spherical::new(); MICROS];
+    let none = Body {
+        cf: Spherical::new(),
+        last: 0.0,
+    };
+    let mut all = [none; MICROS];
     let mut i: usize = 0;
     while i < k {
         let m = pool[i];
-        let cf = m.cf;
-        fs[i] = cf;
+        let b = m.body;
+        all[i] = b;
         i += 1;
     }
-    fs
+    all
 }

@@ -1,13 +1,13 @@
 // The trial of a pool's nearest: whether it takes the point.
-use crate::micro::absorbing;
+use crate::micro::absorbed;
 use crate::micro::newborn;
 use crate::micro::stands;
 use crate::pool::distances;
 use drift::Nearest;
 use feature::MAX_DIM;
+use model::DenMicro;
 use model::DenParams;
 use model::MICROS;
-use model::Micro;
 use readout::Found;
 ghost use mathlib.Core.Path.{_≡_};
 ghost use lib.ListN.{take};
@@ -20,12 +20,12 @@ pub struct Trial {
     // Whether the nearest's copy, which absorbed the point, stands; and its place, and the copy.
     pub stands: bool,
     pub place: usize,
-    pub micro: Micro,
+    pub micro: DenMicro,
 }
 
 // A copy of the nearest of the first n absorbs the point; without a nearest, the point stands alone at place 0.
 pub fn try_merge(
-    pool: [Micro; MICROS],
+    pool: [DenMicro; MICROS],
     n: usize,
     params: DenParams,
     t: f64,
@@ -44,7 +44,7 @@ pub fn try_merge(
         };
     };
     let m = pool[place];
-    let micro = absorbing(m, params.settings.lambda, t, x, dim);
+    let micro = absorbed(m, params.settings.lambda, t, x, dim);
     Trial {
         near: Nearest::Distance(dist),
         stands: stands(micro, params.eps2),

@@ -3,13 +3,13 @@ use Prim.Native.Nat.{_-_}
 use native.Mathlib.Omega.{arith}
 use lib.ListN.{take}
 use borrow.Author.Needs.{needs}
-use Rattle.den_pool.specs.Held.{distanceIn}
+use Rattle.den_pool.specs.Held.{distanceOf}
 use Rattle.lists.specs.Laws.Counted.{Gathered, gather-starts, gather-goes, gather-ends}
 use Rattle.den_pool.proofs.pool.distances.Statement.{statement}
 use Rattle.den_pool.proofs.pool.distances.Tie as tie
 
 abbrev Inv-loop : tie.InvT-loop
-Inv-loop n x dim pool k ds₀ i₀ ds i = Gathered (distanceIn dim (take dim x)) 64 n k pool ds i
+Inv-loop n x dim pool k ds₀ i₀ ds i = Gathered (distanceOf dim (take dim x)) 64 n k pool ds i
 
 abbrev μ-loop : tie.MeasureT-loop
 μ-loop n x dim pool k ds₀ i₀ ds i = k - i

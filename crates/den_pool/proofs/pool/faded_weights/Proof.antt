@@ -2,13 +2,13 @@
 use Prim.Native.Nat.{_-_}
 use native.Mathlib.Omega.{arith}
 use borrow.Author.Needs.{needs}
-use Rattle.model.specs.DenInsert.{fadedWeight}
+use Rattle.den_pool.specs.Held.{weightOf}
 use Rattle.lists.specs.Laws.Counted.{Gathered, gather-starts, gather-goes, gather-ends}
 use Rattle.den_pool.proofs.pool.faded_weights.Statement.{statement}
 use Rattle.den_pool.proofs.pool.faded_weights.Tie as tie
 
 abbrev Inv-loop : tie.InvT-loop
-Inv-loop n lambda t pool k w₀ i₀ w i = Gathered (fadedWeight lambda t) 64 n k pool w i
+Inv-loop n lambda t pool k w₀ i₀ w i = Gathered (weightOf lambda t) 64 n k pool w i
 
 abbrev μ-loop : tie.MeasureT-loop
 μ-loop n lambda t pool k w₀ i₀ w i = k - i
@@ -41,7 +41,7 @@ loop-less : tie.Need-loop-less Inv-loop μ-loop
 loop-less c = search needs
 
 loop-again : tie.Need-loop-again Inv-loop μ-loop
-loop-again c = gather-goes (c .before .before .before .loop .inv) _ (c .before .before .loop-test .taken) (c .faded-weight .ensures)
+loop-again c = gather-goes (c .before .before .before .before .loop .inv) _ (c .before .before .before .loop-test .taken) (c .faded-weight .ensures)
 
 returns : tie.Need-returns Inv-loop μ-loop
 returns c = gather-ends (c .before .loop .inv) (c .loop-test .left)

@@ -54,8 +54,8 @@ array-copy-out-m c =
           _ _ (c .before .found .given .1),
     )
 
-absorbing-requires : tie.Need-absorbing-requires
-absorbing-requires c κs = search needs
+absorbed-requires : tie.Need-absorbed-requires
+absorbed-requires c κs = search needs
 
 stands-requires : tie.Need-stands-requires
 stands-requires c κs = search needs
@@ -66,8 +66,8 @@ returns-2 c =
     let a = k .before .before .args in
     tried-some (settledOf (a .params)) (omega arith) _ (k .before .cut .ensures) (a .x) (omega arith)
     (a .n) (a .t1) _ (k .distances .ensures) _ (c .before .before .before .before .before .before .nearest .ensures)
-    _ _ (c .before .before .before .before .found .given .1) (a .t) _ (c .before .absorbing .result) (c .stands .result)
-    (c .before .absorbing .ensures) (c .stands .ensures)
+    _ _ (c .before .before .before .before .found .given .1) (a .t) _ (c .before .absorbed .result) (c .stands .result)
+    (c .before .absorbed .ensures) (c .stands .ensures)
 
 pub try-merge-spec : {M : Type 1} → statement M
 try-merge-spec =
@@ -82,6 +82,6 @@ try-merge-spec =
     returns
     mul-m
     array-copy-out-m
-    absorbing-requires
+    absorbed-requires
     stands-requires
     returns-2)

@@ -1,18 +1,18 @@
--- `prune_outliers` meets its contract. Assumes nothing.
+-- `pruned` meets its contract. Assumes nothing.
 use Prim.Native.Nat.{_-_}
 use mathlib.Core.Logic.{⊎-elim}
 use native.Mathlib.Omega.{arith}
 use borrow.Author.Needs.{needs}
-use Rattle.model.specs.DenInsert.{outlierStays}
+use Rattle.den_pool.specs.Pruned.{staysAs}
 use Rattle.lists.specs.Laws.Counted.{Kept, keep-starts, keep-takes, keep-drops, keep-ends, kept-length}
-use Rattle.den_pool.proofs.pruning.prune_outliers.Statement.{statement}
-use Rattle.den_pool.proofs.pruning.prune_outliers.Tie as tie
+use Rattle.den_pool.proofs.pruning.pruned.Statement.{statement}
+use Rattle.den_pool.proofs.pruning.pruned.Tie as tie
 
 abbrev Inv-loop : tie.InvT-loop
-Inv-loop n params t pool₀ k i₀ count₀ pool i count = Kept (outlierStays params t) 64 n k pool₀ pool i count
+Inv-loop rank n params t pool₀ k i₀ count₀ pool i count = Kept (staysAs rank params t) 64 n k pool₀ pool i count
 
 abbrev μ-loop : tie.MeasureT-loop
-μ-loop n params t pool₀ k i₀ count₀ pool i count = k - i
+μ-loop rank n params t pool₀ k i₀ count₀ pool i count = k - i
 
 cut-requires : tie.Need-cut-requires Inv-loop μ-loop
 cut-requires c κs = search needs
@@ -26,8 +26,8 @@ mul-m c = search needs
 array-copy-out-m : tie.Need-array-copy-out-m Inv-loop μ-loop
 array-copy-out-m c = search needs
 
-outlier-stays-requires : tie.Need-outlier-stays-requires Inv-loop μ-loop
-outlier-stays-requires c κs = search needs
+stays-requires : tie.Need-stays-requires Inv-loop μ-loop
+stays-requires c κs = search needs
 
 mul-pool : tie.Need-mul-pool Inv-loop μ-loop
 mul-pool c = search needs
@@ -48,7 +48,7 @@ loop-again : tie.Need-loop-again Inv-loop μ-loop
 loop-again c =
     let l = c .before .before .before .before .loop in
     let h = c .before .before .before .loop-test .taken in
-    let v = c .before .outlier-stays .ensures in
+    let v = c .before .stays .ensures in
     ⊎-elim (λ w. keep-takes (l .inv) _ _ _ _ h v (w .0 .taken) (w .1) (w .2)) (λ w. keep-drops (l .inv) _ _ _ _ h v (w .0 .left) (w .1) (w .2)) (c .if1 .came)
 
 returns : tie.Need-returns Inv-loop μ-loop
@@ -56,8 +56,8 @@ returns c =
     let l = c .before .loop in
     (keep-ends (l .inv) (c .loop-test .left), kept-length (l .inv))
 
-pub prune-outliers-spec : {M : Type 1} → statement M
-prune-outliers-spec =
+pub pruned-spec : {M : Type 1} → statement M
+pruned-spec =
     tie.close
     (tie.spec
     Inv-loop
@@ -66,7 +66,7 @@ prune-outliers-spec =
     loop-holds
     mul-m
     array-copy-out-m
-    outlier-stays-requires
+    stays-requires
     mul-pool
     array-set-from-pool
     add-count
