@@ -16,12 +16,11 @@ use Rattle.labels.specs.Label as label
 use Rattle.labels.specs.Label.{labelsOf}
 use Rattle.labels.specs.Laws.Label.{labels-length}
 use Rattle.labels.specs.Group.{sumFrom, sumsOf}
-use Rattle.model.specs.declared.micro.Micro.{Micro}
+use Rattle.model.specs.declared.micro.DenMicro.{DenMicro}
 use Rattle.model.specs.Families.{labelsBy, countedBy}
 use Rattle.model.specs.DenState.{Params}
-use Rattle.model.specs.DenInsert.{fadedWeight}
 use Rattle.model.specs.DenCluster.{pairsFrom}
-use Rattle.den_pool.specs.Held.{microIn, seen}
+use Rattle.den_pool.specs.Held.{microIn, seen, weightOf}
 use Rattle.den_grouping.specs.Group.{labelsIn}
 
 -- two functions that agree on a list's elements
@@ -30,18 +29,18 @@ map-agree f g [] h = refl
 map-agree f g (x ∷ l) h = ap₂ (λ (b : Bool) (r : List Bool). b ∷ r) (h 0 (omega arith)) (map-agree f g l (λ i k. h (suc i) (omega arith)))
 
 -- an array's first n, as those of its first 64 that are seen
-seen-cut : (d k n end : ℕ) (pool : List Micro) → d ≡ k → end ≡ min n 64 → length pool ≡ 64 → seen d end pool ≡ seen k n pool
+seen-cut : (d k n end : ℕ) (pool : List DenMicro) → d ≡ k → end ≡ min n 64 → length pool ≡ 64 → seen d end pool ≡ seen k n pool
 seen-cut d k n end pool e c h = ap (λ (j : ℕ). seen j end pool) e ∙ ap (map (microIn k)) (cut-take end n 64 pool c h)
 
 pub weights-cut :
-    (k n end : ℕ) (pool : List Micro) (lambda t : Float) (ws : List Float) → end ≡ min n 64 → length pool ≡ 64 → ws
-    ≡ map (fadedWeight lambda t) (take end pool) →
-    ws ≡ map (fadedWeight lambda t) (seen k n pool)
+    (k n end : ℕ) (pool : List DenMicro) (lambda t : Float) (ws : List Float) → end ≡ min n 64 → length pool ≡ 64 → ws
+    ≡ map (weightOf lambda t) (take end pool) →
+    ws ≡ map (weightOf lambda t) (seen k n pool)
 weights-cut k n end pool lambda t ws c h e =
-    e ∙ ap (map (fadedWeight lambda t)) (cut-take end n 64 pool c h) ∙ sym (map-map (fadedWeight lambda t) (microIn k) (take n pool))
+    e ∙ ap (map (weightOf lambda t)) (cut-take end n 64 pool c h) ∙ sym (map-map (weightOf lambda t) (microIn k) (take n pool))
 
 pub roots-cut :
-    (eps2 : Float) (d k n end : ℕ) (pool : List Micro) (es : List (ℕ × ℕ)) (roots : List ℕ) → d ≡ k → end ≡ min n 64 → length pool ≡ 64 → es
+    (eps2 : Float) (d k n end : ℕ) (pool : List DenMicro) (es : List (ℕ × ℕ)) (roots : List ℕ) → d ≡ k → end ≡ min n 64 → length pool ≡ 64 → es
     ≡ pairsFrom eps2 0 (seen d end pool) → roots ≡ rootsOf end es →
     roots ≡ rootsOf end (pairsFrom eps2 0 (seen k n pool))
 roots-cut eps2 d k n end pool es roots e c h p r = r ∙ ap (rootsOf end) (p ∙ ap (pairsFrom eps2 0) (seen-cut d k n end pool e c h))
@@ -50,8 +49,8 @@ roots-cut eps2 d k n end pool es roots e c h p r = r ∙ ap (rootsOf end) (p ∙
 pub roots-low : (end : ℕ) → end ≤ 64 → (es : List (ℕ × ℕ)) (roots : List ℕ) → roots ≡ rootsOf end es → (i : ℕ) → i < 64 → getD roots i 0 < 64
 roots-low end h es roots e i k = subst (λ (r : List ℕ). getD r i 0 < 64) (sym e) (roots-tell end h es .low i k)
 
-module _ (p : Params) (t : Float) (l : List Micro) (end : ℕ) (size : length l ≡ end) (few : end ≤ 64) (roots : List ℕ) (er : roots ≡ rootsOf end (pairsFrom (p .eps2) 0 l))
-    (ws : List Float) (ew : ws ≡ map (fadedWeight (p .settings .lambda) t) l) (sums : List Float) (es : sums ≡ sumsOf roots ws)
+module _ (p : Params) (t : Float) (l : List DenMicro) (end : ℕ) (size : length l ≡ end) (few : end ≤ 64) (roots : List ℕ) (er : roots ≡ rootsOf end (pairsFrom (p .eps2) 0 l))
+    (ws : List Float) (ew : ws ≡ map (weightOf (p .settings .lambda) t) l) (sums : List Float) (es : sums ≡ sumsOf roots ws)
     (mask : List Bool) (em : mask ≡ map (λ (v : ℕ). le (p .settings .mu) (getD sums v nan)) (take end roots)) where
   abbrev pairs : List (ℕ × ℕ)
   pairs = pairsFrom (p .eps2) 0 l
@@ -69,7 +68,7 @@ module _ (p : Params) (t : Float) (l : List Micro) (end : ℕ) (size : length l 
   unfolding sumsOf
   sum-at v h = ap (λ (s : List Float). getD s v nan) es ∙ table-at 64 (λ (u : ℕ). sumFrom (ofBits binary64 0) u roots ws) nan v h
 
-  mask-is : mask ≡ countedBy (p .settings .mu) (map (fadedWeight (p .settings .lambda) t) l) pairs
+  mask-is : mask ≡ countedBy (p .settings .mu) (map (weightOf (p .settings .lambda) t) l) pairs
   unfolding countedBy
   mask-is =
       em
@@ -80,8 +79,8 @@ module _ (p : Params) (t : Float) (l : List Micro) (end : ℕ) (size : length l 
       ∙ ap (λ (r : List ℕ). map (λ (v : ℕ). le (p .settings .mu) (sumFrom (ofBits binary64 0) v r ws)) (take end r)) er
       ∙ ap (λ (w : List Float). map (λ (v : ℕ). le (p .settings .mu) (sumFrom (ofBits binary64 0) v (rootsOf end pairs) w)) (take end (rootsOf end pairs))) ew
       ∙ ap (λ (n : ℕ). map (λ (v : ℕ). le (p .settings .mu)
-      (sumFrom (ofBits binary64 0) v (rootsOf n pairs) (map (fadedWeight (p .settings .lambda) t) l))) (take n (rootsOf n pairs)))
-      (sym (length-map l (fadedWeight (p .settings .lambda) t) ∙ size))
+      (sumFrom (ofBits binary64 0) v (rootsOf n pairs) (map (weightOf (p .settings .lambda) t) l))) (take n (rootsOf n pairs)))
+      (sym (length-map l (weightOf (p .settings .lambda) t) ∙ size))
 
   labels-are : labelsOf mask roots ≡ labelsIn p t l
   unfolding labelsIn labelsBy
@@ -101,5 +100,5 @@ module _ (p : Params) (t : Float) (l : List Micro) (end : ℕ) (size : length l 
       (labels-length [] mask roots (omega (arith, mask-size, roots-size)) ∙ mask-size)
       ∙ labels-are
 
-pub seen-size : (d n end : ℕ) (pool : List Micro) → end ≡ min n 64 → length pool ≡ 64 → length (seen d n pool) ≡ end
+pub seen-size : (d n end : ℕ) (pool : List DenMicro) → end ≡ min n 64 → length pool ≡ 64 → length (seen d n pool) ≡ end
 seen-size d n end pool c h = length-map (take n pool) (microIn d) ∙ omega (arith, length-take n pool)

@@ -15,7 +15,7 @@ use Rattle.lists.specs.Rest.{rest}
 use Rattle.lists.specs.Laws.Maps.{map-drop}
 use Rattle.feature.specs.Distance.{sqDist}
 use Rattle.union_find.specs.Pairs.{pairsOf}
-use Rattle.model.specs.declared.micro.Micro.{Micro}
+use Rattle.model.specs.declared.micro.DenMicro.{DenMicro}
 use Rattle.model.specs.DenCluster.{close, rowFrom, pairsFrom}
 use Rattle.den_pool.specs.Held.{microIn, seen}
 use Rattle.den_grouping.specs.Group.{rowOf, rowAt}
@@ -36,7 +36,7 @@ one-more a b k i j h e =
     ∙ pairs-snoc (take k a) (take k b) i j (length-take k a ∙ ap (min k) e ∙ sym (length-take k b))
 
 -- ---- a row: the pairs of place i with the places from j on
-module _ (eps2 : Float) (i : ℕ) (centre : List Float) (dim n : ℕ) (l : List Micro) where
+module _ (eps2 : Float) (i : ℕ) (centre : List Float) (dim n : ℕ) (l : List DenMicro) where
   abbrev left : ℕ → List (ℕ × ℕ)
   left j = rowFrom eps2 i centre j (map (microIn dim) (rest n j l))
 
@@ -44,19 +44,19 @@ module _ (eps2 : Float) (i : ℕ) (centre : List Float) (dim n : ℕ) (l : List 
   reach = ofBits binary64 0x4010_0000_0000_0000 ⊗ eps2
 
   left-step :
-      (j : ℕ) (z : Micro) → j < n → n ≤ length l →
-      left j ≡ cond (close eps2 centre (take dim (getD l j z .cf .mean))) ((i, j) ∷ left (j + 1)) (left (j + 1))
+      (j : ℕ) (z : DenMicro) → j < n → n ≤ length l →
+      left j ≡ cond (close eps2 centre (take dim (getD l j z .body .cf .mean))) ((i, j) ∷ left (j + 1)) (left (j + 1))
   unfolding rowFrom
-  left-step j z h k = ap (λ (r : List Micro). rowFrom eps2 i centre j (map (microIn dim) r)) (rest-step n j l z h k)
+  left-step j z h k = ap (λ (r : List DenMicro). rowFrom eps2 i centre j (map (microIn dim) r)) (rest-step n j l z h k)
 
   left-is :
-      (j : ℕ) (z : Micro) (v : Float) (t : Bool) → j < n → n ≤ length l → v ≡ sqDist centre (take dim (getD l j z .cf .mean)) → le v reach ≡ t →
+      (j : ℕ) (z : DenMicro) (v : Float) (t : Bool) → j < n → n ≤ length l → v ≡ sqDist centre (take dim (getD l j z .body .cf .mean)) → le v reach ≡ t →
       left j ≡ cond t ((i, j) ∷ left (j + 1)) (left (j + 1))
   left-is j z v t h k e w = left-step j z h k ∙ ap (λ (b : Bool). cond b ((i, j) ∷ left (j + 1)) (left (j + 1))) (ap (λ (d : Float). le d reach) (sym e) ∙ w)
 
   left-end : (j : ℕ) → n ≤ j → left j ≡ []
   unfolding rowFrom
-  left-end j h = ap (λ (r : List Micro). rowFrom eps2 i centre j (map (microIn dim) r)) (rest-end n j l h)
+  left-end j h = ap (λ (r : List DenMicro). rowFrom eps2 i centre j (map (microIn dim) r)) (rest-end n j l h)
 
   -- what is stored, and what is left, make up all
   pub record Rowed (all : List (ℕ × ℕ)) (total : ℕ) (a b : List ℕ) (k j : ℕ) : Type 0 where
@@ -68,8 +68,8 @@ module _ (eps2 : Float) (i : ℕ) (centre : List Float) (dim n : ℕ) (l : List 
     pub done : pairsOf (take k a) (take k b) ++ left j ≡ all
     pub counted : k + length (left j) ≡ total
 
-  module _ (all : List (ℕ × ℕ)) (total : ℕ) (a b : List ℕ) (k j : ℕ) (g : Rowed all total a b k j) (h : j < n) (s : n ≤ length l) (z : Micro)
-      (v : Float) (e : v ≡ sqDist centre (take dim (getD l j z .cf .mean))) where
+  module _ (all : List (ℕ × ℕ)) (total : ℕ) (a b : List ℕ) (k j : ℕ) (g : Rowed all total a b k j) (h : j < n) (s : n ≤ length l) (z : DenMicro)
+      (v : Float) (e : v ≡ sqDist centre (take dim (getD l j z .body .cf .mean))) where
     pub row-room : le v reach ≡ true → k < 2016
     row-room w =
         let c : k + length (left j) ≡ total = g .counted in
@@ -121,18 +121,18 @@ module _ (eps2 : Float) (i : ℕ) (centre : List Float) (dim n : ℕ) (l : List 
       )
 
 -- ---- all rows
-module _ (eps2 : Float) (dim n i : ℕ) (l : List Micro) where
+module _ (eps2 : Float) (dim n i : ℕ) (l : List DenMicro) where
   seen-rest : drop i (seen dim n l) ≡ map (microIn dim) (rest n i l)
   unfolding rest
   seen-rest = sym (map-drop (microIn dim) i (take n l))
 
-  pub row-start : (z : Micro) → i < n → n ≤ length l → left eps2 i (take dim (getD l i z .cf .mean)) dim n l (i + 1) ≡ rowAt eps2 i (seen dim n l)
+  pub row-start : (z : DenMicro) → i < n → n ≤ length l → left eps2 i (take dim (getD l i z .body .cf .mean)) dim n l (i + 1) ≡ rowAt eps2 i (seen dim n l)
   row-start z h k = sym (ap (rowOf eps2 i) (seen-rest ∙ ap (map (microIn dim)) (rest-step n i l z h k)))
 
   pub row-from :
-      (z : Micro) → i < n → n ≤ length l → (a b : List ℕ) (count : ℕ) → length a ≡ 2016 → length b
+      (z : DenMicro) → i < n → n ≤ length l → (a b : List ℕ) (count : ℕ) → length a ≡ 2016 → length b
       ≡ 2016 → count + length (rowAt eps2 i (seen dim n l)) ≤ 2016 →
-      Rowed eps2 i (take dim (getD l i z .cf .mean)) dim n l (pairsOf (take count a) (take count b) ++ rowAt eps2 i (seen dim n l))
+      Rowed eps2 i (take dim (getD l i z .body .cf .mean)) dim n l (pairsOf (take count a) (take count b) ++ rowAt eps2 i (seen dim n l))
       (count + length (rowAt eps2 i (seen dim n l))) a b count (i + 1)
   row-from z h k a b count sa sb f =
       record {
@@ -146,10 +146,10 @@ module _ (eps2 : Float) (dim n i : ℕ) (l : List Micro) where
       }
 
 -- ---- how many pairs there are at most
-row-few : (eps2 : Float) (i : ℕ) (centre : List Float) (j : ℕ) (l : List Micro) → length (rowFrom eps2 i centre j l) ≤ length l
+row-few : (eps2 : Float) (i : ℕ) (centre : List Float) (j : ℕ) (l : List DenMicro) → length (rowFrom eps2 i centre j l) ≤ length l
 unfolding rowFrom
 row-few eps2 i centre j [] = omega arith
-row-few eps2 i centre j (m ∷ l) = go (close eps2 centre (m .cf .mean)) (rowFrom eps2 i centre (j + 1) l) (row-few eps2 i centre (j + 1) l)
+row-few eps2 i centre j (m ∷ l) = go (close eps2 centre (m .body .cf .mean)) (rowFrom eps2 i centre (j + 1) l) (row-few eps2 i centre (j + 1) l)
   where
     go : (t : Bool) (r : List (ℕ × ℕ)) → length r ≤ length l → length (cond t ((i, j) ∷ r) r) ≤ suc (length l)
     go true r h = omega arith
@@ -158,25 +158,25 @@ row-few eps2 i centre j (m ∷ l) = go (close eps2 centre (m .cf .mean)) (rowFro
 next-square : (k : ℕ) → (k + 1) * (k + 1) ≡ k * k + 2 * k + 1
 next-square k = simp (mul-add, add-mul, mul-one, one-mul) (omega arith)
 
-twice-few : (eps2 : Float) (i : ℕ) (l : List Micro) → 2 * length (pairsFrom eps2 i l) + length l ≤ length l * length l
+twice-few : (eps2 : Float) (i : ℕ) (l : List DenMicro) → 2 * length (pairsFrom eps2 i l) + length l ≤ length l * length l
 unfolding pairsFrom
 twice-few eps2 i [] = omega arith
 twice-few eps2 i (m ∷ l) =
-    let a : length (rowFrom eps2 i (m .cf .mean) (i + 1) l) ≤ length l = row-few eps2 i (m .cf .mean) (i + 1) l in
+    let a : length (rowFrom eps2 i (m .body .cf .mean) (i + 1) l) ≤ length l = row-few eps2 i (m .body .cf .mean) (i + 1) l in
     let b : 2 * length (pairsFrom eps2 (i + 1) l) + length l ≤ length l * length l = twice-few eps2 (i + 1) l in
-    let c : length (rowFrom eps2 i (m .cf .mean) (i + 1) l ++ pairsFrom eps2 (i + 1) l)
-    ≡ length (rowFrom eps2 i (m .cf .mean) (i + 1) l) + length (pairsFrom eps2 (i + 1) l) =
-    length-append (rowFrom eps2 i (m .cf .mean) (i + 1) l) (pairsFrom eps2 (i + 1) l) in
+    let c : length (rowFrom eps2 i (m .body .cf .mean) (i + 1) l ++ pairsFrom eps2 (i + 1) l)
+    ≡ length (rowFrom eps2 i (m .body .cf .mean) (i + 1) l) + length (pairsFrom eps2 (i + 1) l) =
+    length-append (rowFrom eps2 i (m .body .cf .mean) (i + 1) l) (pairsFrom eps2 (i + 1) l) in
     rw (← add-one (length l)) (omega (arith, next-square (length l)))
 
-pairs-few : (eps2 : Float) (i : ℕ) (l : List Micro) → length l ≤ 64 → length (pairsFrom eps2 i l) ≤ 2016
+pairs-few : (eps2 : Float) (i : ℕ) (l : List DenMicro) → length l ≤ 64 → length (pairsFrom eps2 i l) ≤ 2016
 pairs-few eps2 i l h =
     let a : 2 * length (pairsFrom eps2 i l) + length l ≤ length l * length l = twice-few eps2 i l in
     let b : length l * length l ≤ length l * 64 = mul-le-mul-left (length l) h in
     omega arith
 
 -- ---- all rows
-module _ (eps2 : Float) (dim n : ℕ) (l : List Micro) where
+module _ (eps2 : Float) (dim n : ℕ) (l : List DenMicro) where
   abbrev rows : ℕ → List (ℕ × ℕ)
   rows i = pairsFrom eps2 i (map (microIn dim) (rest n i l))
 
@@ -186,13 +186,13 @@ module _ (eps2 : Float) (dim n : ℕ) (l : List Micro) where
   rows-step : (i : ℕ) → i < n → n ≤ length l → rows i ≡ rowAt eps2 i (seen dim n l) ++ rows (i + 1)
   unfolding pairsFrom
   rows-step i h k =
-      let z : Micro = any-of l (omega arith) in
-      ap (λ (r : List Micro). pairsFrom eps2 i (map (microIn dim) r)) (rest-step n i l z h k)
+      let z : DenMicro = any-of l (omega arith) in
+      ap (λ (r : List DenMicro). pairsFrom eps2 i (map (microIn dim) r)) (rest-step n i l z h k)
       ∙ ap (λ (r : List (ℕ × ℕ)). r ++ rows (i + 1)) (row-start eps2 dim n i l z h k)
 
   rows-end : (i : ℕ) → n ≤ i → rows i ≡ []
   unfolding pairsFrom
-  rows-end i h = ap (λ (r : List Micro). pairsFrom eps2 i (map (microIn dim) r)) (rest-end n i l h)
+  rows-end i h = ap (λ (r : List DenMicro). pairsFrom eps2 i (map (microIn dim) r)) (rest-end n i l h)
 
   pub record Paired (a b : List ℕ) (count i : ℕ) : Type 0 where
     pub top : i ≤ n
@@ -203,7 +203,7 @@ module _ (eps2 : Float) (dim n : ℕ) (l : List Micro) where
 
   pub pair-from : (a b : List ℕ) → length a ≡ 2016 → length b ≡ 2016 → Paired a b 0 0
   pair-from a b sa sb =
-      let e : rows 0 ≡ every = ap (λ (r : List Micro). pairsFrom eps2 0 (map (microIn dim) r)) (rest-start n l) in
+      let e : rows 0 ≡ every = ap (λ (r : List DenMicro). pairsFrom eps2 0 (map (microIn dim) r)) (rest-start n l) in
       let q : length (rows 0) ≡ length every = ap length e in
       record { top = omega arith; a-size = sa; b-size = sb; done = e; counted = omega arith }
 

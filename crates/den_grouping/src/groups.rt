@@ -2,9 +2,9 @@
 use crate::pairs::PAIRS;
 use crate::pairs::close_pairs;
 use feature::MAX_DIM;
+use model::DenMicro;
 use model::DenParams;
 use model::MICROS;
-use model::Micro;
 ghost use Prim.Native.Nat.{_≤_, _<_, min, ℕ};
 ghost use mathlib.Core.Path.{_≡_};
 ghost use mathlib.Core.List.{map};
@@ -31,7 +31,7 @@ fn reaching(roots: [usize; MICROS], sums: [f64; MICROS], n: usize, mu: f64) -> [
 }
 
 // The labels of the first n at the clock t.
-pub fn group_labels(pool: [Micro; MICROS], n: usize, params: DenParams, t: f64) -> [i64; MICROS]
+pub fn group_labels(pool: [DenMicro; MICROS], n: usize, params: DenParams, t: f64) -> [i64; MICROS]
     ensures { λ r. ⌜ take n r ≡ labelsIn params t (seen (min (params .settings .dim) maxDim) n pool) ⌝ }
 {
     let end = lists::cut(n, MICROS);

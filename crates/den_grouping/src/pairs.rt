@@ -1,7 +1,7 @@
 // The pairs of micro-clusters whose centres are close: the places (a[k], b[k]).
+use model::DenMicro;
 use model::LINKS;
 use model::MICROS;
-use model::Micro;
 ghost use Prim.Native.Nat.{_≤_, _<_, _+_};
 ghost use mathlib.Core.Path.{_≡_};
 ghost use mathlib.Core.List.{_++_};
@@ -17,7 +17,7 @@ pub const PAIRS: usize = LINKS;
 
 // After count pairs, those of place i with the places behind it; how many there are then.
 fn pair_row(
-    pool: [Micro; MICROS],
+    pool: [DenMicro; MICROS],
     n: usize,
     i: usize,
     dim: usize,
@@ -32,13 +32,13 @@ fn pair_row(
     ensures sized { λ r. ⌜ (length (now (a .exit)) ≡ pairsMost) × (length (now (b .exit)) ≡ pairsMost) ⌝ }
 {
     let m = pool[i];
-    let cf = m.cf;
+    let cf = m.body.cf;
     let centre = cf.mean;
     let mut k = count;
     let mut j = i + 1;
     while j < n {
         let other_micro = pool[j];
-        let other_cf = other_micro.cf;
+        let other_cf = other_micro.body.cf;
         let other = other_cf.mean;
         if feature::sq_euclidean(centre, other, dim) <= 4.0 * eps2 {
             a[k] = i;
@@ -52,7 +52,7 @@ fn pair_row(
 
 // All pairs, by the lower place, then by the higher; how many there are.
 pub(crate) fn close_pairs(
-    pool: [Micro; MICROS],
+    pool: [DenMicro; MICROS],
     n: usize,
     dim: usize,
     eps2: f64,

@@ -10,7 +10,7 @@ use lib.Seq.{length-take-le}
 use borrow.Author.Tests.{lt-ltb, le-ltb}
 use Rattle.feature.specs.Feature.{maxDim}
 use Rattle.drift.specs.declared.Nearest.{Nearest}
-use Rattle.model.specs.declared.micro.Micro.{Micro}
+use Rattle.model.specs.declared.micro.DenMicro.{DenMicro}
 use Rattle.model.specs.Limits.{microsMost}
 use Rattle.model.specs.DenState.{Params, Holdings}
 use Rattle.model.specs.DenInsert.{smallerOf, newborn}
@@ -25,7 +25,7 @@ use Rattle.den_placement.specs.Pools.{potentialHeld, outliersHeld, pools
 use Rattle.den_placement.specs.Laws.Pools.{held-length}
 use Rattle.den_placement.specs.Placing.{grownTo, elseBy, placementBy, hasRoom, placementOf, placementTold}
 
-module _ (p : Params) (t : Float) (point : List Float) (potential : List Micro) (potentialCount : ℕ) (outliers : List Micro) (outlierCount : ℕ) where
+module _ (p : Params) (t : Float) (point : List Float) (potential : List DenMicro) (potentialCount : ℕ) (outliers : List DenMicro) (outlierCount : ℕ) where
   abbrev d : ℕ
   d = dimOf p
 
@@ -35,7 +35,7 @@ module _ (p : Params) (t : Float) (point : List Float) (potential : List Micro) 
   abbrev h : Holdings
   h = poolsOf d potential potentialCount outliers outlierCount
 
-  abbrev tried : List Micro → Trial
+  abbrev tried : List DenMicro → Trial
   tried = triedOf (settledOf p) t x
 
   abbrev else : Nearest → Trial → Placement
@@ -73,7 +73,7 @@ module _ (p : Params) (t : Float) (point : List Float) (potential : List Micro) 
       abbrev taken : Target → Placement
       taken target = record { target = target; place = b .place; micro = b .micro; near = near }
 
-      abbrev left : Micro → (room : Bool) → Placement
+      abbrev left : DenMicro → (room : Bool) → Placement
       left m room = record { target = cond room Newborn Nowhere; place = 0; micro = m; near = near }
 
       -- by whether the outlier takes it
@@ -86,7 +86,7 @@ module _ (p : Params) (t : Float) (point : List Float) (potential : List Micro) 
 
       -- m is the point alone
       module _ (lp : length potential ≡ microsMost) (lo : length outliers ≡ microsMost) (lx : length point ≡ maxDim) (k : ℕ) (c : k ≡ d)
-          (m : Micro) (w : m ≡ newborn maxDim t (take k point)) (st : b .stands ≡ false) where
+          (m : DenMicro) (w : m ≡ newborn maxDim t (take k point)) (st : b .stands ≡ false) where
         born-is : microIn d m ≡ newborn d t x
         born-is =
             newborn-in d t x m (length-take-le d point (omega arith)) (omega arith) (w ∙ ap (λ (j : ℕ). newborn maxDim t (take j point)) c)

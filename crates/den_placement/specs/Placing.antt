@@ -7,7 +7,7 @@ use lib.Ieee.{Float, le}
 use lib.ListN.{length, set}
 use Rattle.lists.specs.Retain.{without}
 use Rattle.drift.specs.declared.Nearest.{Nearest}
-use Rattle.model.specs.declared.micro.Micro.{Micro}
+use Rattle.model.specs.declared.micro.DenMicro.{DenMicro}
 use Rattle.model.specs.Limits.{microsMost}
 use Rattle.model.specs.DenState.{Params, Holdings, pooled}
 use Rattle.model.specs.DenInsert.{newborn, smallerOf}
@@ -20,8 +20,8 @@ use Rattle.den_placement.specs.declared.choice.Placement.{Placement}
 
 -- ---- the placement of a point
 -- "and moves to the end of the potential list if w ≥ bm"
-abbrev pub grownTo : (bm : Float) → Micro → Target
-grownTo bm m = cond (le bm (m .cf .w)) Promotion Outlier
+abbrev pub grownTo : (bm : Float) → DenMicro → Target
+grownTo bm m = cond (le bm (m .body .cf .w)) Promotion Outlier
 
 -- "Else the nearest outlier is tried likewise .. Else a new outlier goes to the end of the outliers", if there is room; where none absorbs, the place is 0
 abbrev pub elseBy : Params → (t : Float) → List Float → (room : Bool) → Nearest → (outlier : Trial) → Placement
@@ -55,7 +55,7 @@ takes Newborn = true
 takes Nowhere = false
 
 -- what is held after the micro-cluster m went to its target
-abbrev pub pooledAt : Target → (place : ℕ) → Micro → Holdings → Holdings
+abbrev pub pooledAt : Target → (place : ℕ) → DenMicro → Holdings → Holdings
 pooledAt Potential place m h = pooled (set (h .potential) place m) (h .outliers)
 pooledAt Promotion place m h = pooled (h .potential ++ m ∷ []) (without place (h .outliers))
 pooledAt Outlier place m h = pooled (h .potential) (set (h .outliers) place m)

@@ -4,7 +4,7 @@ use mathlib.Core.List.{List}
 use lib.IntN.{ℤ}
 use lib.Ieee.{Float}
 use Rattle.drift.specs.Monitor.{Monitor}
-use Rattle.model.specs.declared.micro.Micro.{Micro}
+use Rattle.model.specs.declared.micro.DenMicro.{DenMicro}
 use Rattle.model.specs.Limits.{microsMost}
 use Rattle.model.specs.DenState.{Params, Holdings, pooled, State}
 use Rattle.den_pool.specs.Held.{dimOf, settledOf, seen}
@@ -17,12 +17,12 @@ abbrev pub outliersHeld : (potential outliers : ℕ) → ℕ
 outliersHeld potential outliers = min outliers (microsMost - potentialHeld potential)
 
 -- what is held in these arrays; and the stream that keeps it
-abbrev pub poolsOf : (dim : ℕ) → (potential : List Micro) → (potentialCount : ℕ) → (outliers : List Micro) → (outlierCount : ℕ) → Holdings
+abbrev pub poolsOf : (dim : ℕ) → (potential : List DenMicro) → (potentialCount : ℕ) → (outliers : List DenMicro) → (outlierCount : ℕ) → Holdings
 poolsOf dim potential potentialCount outliers outlierCount =
     pooled (seen dim (potentialHeld potentialCount) potential) (seen dim (outliersHeld potentialCount outlierCount) outliers)
 
 abbrev pub stateOf :
-    Params → (t : Float) → (potential : List Micro) → (potentialCount : ℕ) → (outliers : List Micro) → (outlierCount : ℕ) →
+    Params → (t : Float) → (potential : List DenMicro) → (potentialCount : ℕ) → (outliers : List DenMicro) → (outlierCount : ℕ) →
     (labels : List ℤ) → Monitor → State
 stateOf p t potential potentialCount outliers outlierCount labels drift =
     record {

@@ -3,9 +3,9 @@ use crate::counts::outliers_held;
 use crate::counts::potential_held;
 use drift::Nearest;
 use feature::MAX_DIM;
+use model::DenMicro;
 use model::DenParams;
 use model::MICROS;
-use model::Micro;
 ghost use mathlib.Core.Path.{_≡_};
 ghost use lib.ListN.{take};
 ghost use Rattle.model.specs.DenInsert.{smallerOf};
@@ -43,13 +43,13 @@ pub struct Placement {
     // The place of the one that absorbs, in its pool.
     pub place: usize,
     // The micro-cluster with the point.
-    pub micro: Micro,
+    pub micro: DenMicro,
     // The drift distance.
     pub near: Nearest,
 }
 
 impl Placement {
-    fn new(target: Target, place: usize, micro: Micro, near: Nearest) -> Self
+    fn new(target: Target, place: usize, micro: DenMicro, near: Nearest) -> Self
         ensures { λ r. ⌜ r ≡ record { target = target; place = place; micro = micro; near = near } ⌝ }
     {
         Placement {
@@ -78,10 +78,10 @@ fn smaller(potential: Nearest, outlier: Nearest) -> Nearest
 }
 
 // Where an outlier that absorbed the point belongs.
-fn grown(m: Micro, bm: f64) -> Target
+fn grown(m: DenMicro, bm: f64) -> Target
     ensures { λ r. ⌜ r ≡ grownTo bm m ⌝ }
 {
-    let cf = m.cf;
+    let cf = m.body.cf;
     if bm <= cf.w {
         return Target::Promotion;
     }
@@ -90,9 +90,9 @@ fn grown(m: Micro, bm: f64) -> Target
 
 // The potential pool is tried first, then the outliers; else the point is a new outlier, where there is a place.
 pub fn place(
-    potential: [Micro; MICROS],
+    potential: [DenMicro; MICROS],
     potential_count: usize,
-    outliers: [Micro; MICROS],
+    outliers: [DenMicro; MICROS],
     outlier_count: usize,
     params: DenParams,
     t: f64,

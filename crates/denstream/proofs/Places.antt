@@ -5,7 +5,7 @@ use mathlib.Core.List.{List}
 use lib.ListN.{length, take, set}
 use Rattle.lists.specs.Retain.{without}
 use Rattle.feature.specs.Feature.{maxDim}
-use Rattle.model.specs.declared.micro.Micro.{Micro}
+use Rattle.model.specs.declared.micro.DenMicro.{DenMicro}
 use Rattle.model.specs.DenState.{Holdings, State}
 use Rattle.model.specs.Stream.{taking}
 use Rattle.den_pool.specs.declared.pool.Pool.{Pool}
@@ -35,7 +35,7 @@ abbrev pub withPools : DenStream → Holdings → State
 withPools s h = taking (view s) h
 
 -- s over other pools
-abbrev pub over : DenStream → (potential : List Micro) → ℕ → (outliers : List Micro) → ℕ → DenStream
+abbrev pub over : DenStream → (potential : List DenMicro) → ℕ → (outliers : List DenMicro) → ℕ → DenStream
 over s a n b k =
     record {
       params = s .params;

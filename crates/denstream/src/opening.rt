@@ -5,7 +5,7 @@ use feature::Spherical;
 use model::DenParams;
 use model::DenSettings;
 use model::MICROS;
-use model::Micro;
+use model::DenMicro;
 use model::Opening;
 ghost use Prim.Native.Nat.{min};
 ghost use mathlib.Core.Path.{_≡_};
@@ -72,7 +72,7 @@ impl DenStream {
     fn fresh(settings: DenSettings) -> Self
         ensures { λ r. ⌜ view r ≡ doc.fresh (withDim settings (min (settings .dim) maxDim)) ⌝ }
     {
-        let none = Micro {
+        let none = DenMicro {
             cf: Spherical::new(),
             last: 0.0,
             t0: 0.0,

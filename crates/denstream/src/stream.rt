@@ -4,7 +4,7 @@ use drift::DriftReport;
 use feature::MAX_DIM;
 use model::DenParams;
 use model::MICROS;
-use model::Micro;
+use model::DenMicro;
 ghost use mathlib.Core.Path.{_≡_};
 ghost use lib.ListN.{length};
 ghost use Rattle.drift.specs.Monitor.{reportOf};
@@ -14,9 +14,9 @@ ghost use Rattle.denstream.specs.View.{view};
 pub struct DenStream {
     pub params: DenParams,
     pub t: f64,
-    pub potential: [Micro; MICROS],
+    pub potential: [DenMicro; MICROS],
     pub potential_count: usize,
-    pub outliers: [Micro; MICROS],
+    pub outliers: [DenMicro; MICROS],
     pub outlier_count: usize,
     pub labels: [i64; MICROS],
     pub label_count: usize,

@@ -10,7 +10,7 @@ use lib.ListN.{length, set}
 use borrow.Author.Tests.{ltb-true}
 use Rattle.lists.specs.Retain.{without}
 use Rattle.drift.specs.declared.Nearest.{Nearest}
-use Rattle.model.specs.declared.micro.Micro.{Micro}
+use Rattle.model.specs.declared.micro.DenMicro.{DenMicro}
 use Rattle.model.specs.Limits.{microsMost}
 use Rattle.model.specs.Nearest.{Near}
 use Rattle.model.specs.DenState.{pooled, State}
@@ -32,12 +32,12 @@ pub record Placing (s : State) (x : List Float) (r : Placement) : Type 0 where
   pub ready : Ready (r .target) (r .place) (s .held)
 
 -- a trial of a pool, as document 01's definitions have it
-record Trying (s : State) (x : List Float) (pool : List Micro) (a : Trial) : Type 0 where
+record Trying (s : State) (x : List Float) (pool : List DenMicro) (a : Trial) : Type 0 where
   taken : trialIn s x pool ≡ cond (a .stands) (some (takerOf a)) none
   near : a .near ≡ distanceOf (nearestIn x pool)
   low : a .stands ≡ true → a .place < length pool
 
-trying : (s : State) (x : List Float) (pool : List Micro) → Trying s x pool (triedOf (s .params) (s .t) x pool)
+trying : (s : State) (x : List Float) (pool : List DenMicro) → Trying s x pool (triedOf (s .params) (s .t) x pool)
 trying s x pool =
     record {
       taken = tried-trial (s .params) (s .t) x (nearestIn x pool);
@@ -63,9 +63,9 @@ module _ (s : State) (x : List Float) (a b : Trial) (ea : Trying s x (s .held .p
   alone u = record { target = cond u Newborn Nowhere; place = 0; micro = newborn (s .params .settings .dim) (s .t) x; near = near }
 
   abbrev heavy : Bool
-  heavy = le (s .params .bm) (b .micro .cf .w)
+  heavy = le (s .params .bm) (b .micro .body .cf .w)
 
-  taken-by : {pool : List Micro} {c : Trial} (e : Trying s x pool c) (u : Bool) → c .stands ≡ u → trialIn s x pool ≡ cond u (some (takerOf c)) none
+  taken-by : {pool : List DenMicro} {c : Trial} (e : Trying s x pool c) (u : Bool) → c .stands ≡ u → trialIn s x pool ≡ cond u (some (takerOf c)) none
   taken-by {pool} {c} e u h = e .taken ∙ ap (λ (v : Bool). cond v (some (takerOf c)) none) h
 
   -- the potential pool's nearest takes the point
@@ -76,9 +76,9 @@ module _ (s : State) (x : List Float) (a b : Trial) (ea : Trying s x (s .held .p
       let p : Nearest = distanceOf (nearestIn x (s .held .potential)) in
       let q : Nearest = distanceOf (nearestIn x (s .held .outliers)) in
       record {
-        fits = ap (λ (o : Option (Near Micro)). (isThere o || isThere (trialIn s x (s .held .outliers))) || room) (sym i);
-        near = ea .near ∙ ap (λ (o : Option (Near Micro)). cond (isThere o) p (smallerOf p q)) (sym i);
-        placed = λ k. ap (λ (o : Option (Near Micro)). placedBy s x o (trialIn s x (s .held .outliers))) (sym i);
+        fits = ap (λ (o : Option (Near DenMicro)). (isThere o || isThere (trialIn s x (s .held .outliers))) || room) (sym i);
+        near = ea .near ∙ ap (λ (o : Option (Near DenMicro)). cond (isThere o) p (smallerOf p q)) (sym i);
+        placed = λ k. ap (λ (o : Option (Near DenMicro)). placedBy s x o (trialIn s x (s .held .outliers))) (sym i);
         ready = ea .low h;
       }
 
@@ -88,14 +88,14 @@ module _ (s : State) (x : List Float) (a b : Trial) (ea : Trying s x (s .held .p
     near-is =
         let p : Nearest = distanceOf (nearestIn x (s .held .potential)) in
         let q : Nearest = distanceOf (nearestIn x (s .held .outliers)) in
-        ap₂ smallerOf (ea .near) (eb .near) ∙ ap (λ (o : Option (Near Micro)). cond (isThere o) p (smallerOf p q)) (sym (taken-by ea false h))
+        ap₂ smallerOf (ea .near) (eb .near) ∙ ap (λ (o : Option (Near DenMicro)). cond (isThere o) p (smallerOf p q)) (sym (taken-by ea false h))
 
     fits-is : (u : Bool) → b .stands ≡ u → isThere (cond u (some (takerOf b)) none) || room ≡ hasPlace s x
-    fits-is u k = ap₂ (λ (o i : Option (Near Micro)). (isThere o || isThere i) || room) (sym (taken-by ea false h)) (sym (taken-by eb u k))
+    fits-is u k = ap₂ (λ (o i : Option (Near DenMicro)). (isThere o || isThere i) || room) (sym (taken-by ea false h)) (sym (taken-by eb u k))
 
     placed-is : (u : Bool) → b .stands ≡ u → placedBy s x none (cond u (some (takerOf b)) none) ≡ doc.placed s x
     unfolding doc.placed
-    placed-is u k = ap₂ (λ (o i : Option (Near Micro)). placedBy s x o i) (sym (taken-by ea false h)) (sym (taken-by eb u k))
+    placed-is u k = ap₂ (λ (o i : Option (Near DenMicro)). placedBy s x o i) (sym (taken-by ea false h)) (sym (taken-by eb u k))
 
     -- the nearest outlier takes it, and moves or stays
     by-outlier : b .stands ≡ true → Placing s x (grown heavy)

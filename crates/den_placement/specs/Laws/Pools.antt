@@ -11,7 +11,7 @@ use Rattle.lists.specs.Retain.{retain, without}
 use Rattle.lists.specs.Laws.Rest.{take-set}
 use Rattle.lists.specs.Laws.Maps.{map-set, map-append, map-retain}
 use Rattle.lists.specs.Laws.Sizes.{retain-length, without-length}
-use Rattle.model.specs.declared.micro.Micro.{Micro}
+use Rattle.model.specs.declared.micro.DenMicro.{DenMicro}
 use Rattle.model.specs.DenState.{Params, Holdings, pooled}
 use Rattle.model.specs.DenInsert.{potentialStays, outlierStays, pruned}
 use Rattle.den_pool.specs.declared.pool.Pool.{Pool}
@@ -22,7 +22,7 @@ use Rattle.den_placement.specs.Pools.{potentialHeld, outliersHeld, pools
 use Rattle.den_placement.specs.Placing.{pooledAt, Ready}
 
 -- how many are seen
-pub held-length : (dim n : ℕ) (l : List Micro) → n ≤ length l → length (seen dim n l) ≡ n
+pub held-length : (dim n : ℕ) (l : List DenMicro) → n ≤ length l → length (seen dim n l) ≡ n
 held-length dim n l h = length-map (take n l) (microIn dim) ∙ length-take-le n l h
 
 map-without : {A B : Type 0} (f : A → B) (i : ℕ) (l : List A) → map f (without i l) ≡ without i (map f l)
@@ -31,25 +31,25 @@ map-without f i [] = refl
 map-without f zero (x ∷ xs) = refl
 map-without {A} {B} f (suc i) (x ∷ xs) = ap (λ (r : List B). f x ∷ r) (map-without f i xs)
 
-seen-set : (dim n : ℕ) (l : List Micro) (i : ℕ) (m : Micro) → seen dim n (set l i m) ≡ set (seen dim n l) i (microIn dim m)
+seen-set : (dim n : ℕ) (l : List DenMicro) (i : ℕ) (m : DenMicro) → seen dim n (set l i m) ≡ set (seen dim n l) i (microIn dim m)
 seen-set dim n l i m = ap (map (microIn dim)) (take-set n l i m) ∙ map-set (microIn dim) (take n l) i m
 
 -- one more at the end
-seen-more : (dim n k : ℕ) (l : List Micro) (m : Micro) → n < length l → k ≡ n + 1 → seen dim k (set l n m) ≡ seen dim n l ++ microIn dim m ∷ []
+seen-more : (dim n k : ℕ) (l : List DenMicro) (m : DenMicro) → n < length l → k ≡ n + 1 → seen dim k (set l n m) ≡ seen dim n l ++ microIn dim m ∷ []
 seen-more dim n k l m h e =
     ap (λ (j : ℕ). seen dim j (set l n m)) (e ∙ add-one n)
     ∙ ap (map (microIn dim)) (take-suc-set l n m h)
     ∙ map-append (microIn dim) (take n l) (m ∷ [])
 
-module _ (d : ℕ) (potential : List Micro) (potentialCount : ℕ) (outliers : List Micro) (outlierCount : ℕ) where
+module _ (d : ℕ) (potential : List DenMicro) (potentialCount : ℕ) (outliers : List DenMicro) (outlierCount : ℕ) where
   abbrev s : Holdings
   s = poolsOf d potential potentialCount outliers outlierCount
 
   -- one absorbs where it is
-  module _ (target : Target) (place : ℕ) (m : Micro) where
+  module _ (target : Target) (place : ℕ) (m : DenMicro) where
     pub potential-absorbs : target ≡ Potential → poolsOf d (set potential place m) potentialCount outliers outlierCount ≡ pooledAt target place (microIn d m) s
     potential-absorbs e =
-        ap (λ (l : List Micro). pooled l (s .outliers)) (seen-set d (potentialHeld potentialCount) potential place m)
+        ap (λ (l : List DenMicro). pooled l (s .outliers)) (seen-set d (potentialHeld potentialCount) potential place m)
         ∙ ap (λ (u : Target). pooledAt u place (microIn d m) s) (sym e)
 
     pub outlier-absorbs : target ≡ Outlier → poolsOf d potential potentialCount (set outliers place m) outlierCount ≡ pooledAt target place (microIn d m) s
@@ -97,7 +97,7 @@ module _ (d : ℕ) (potential : List Micro) (potentialCount : ℕ) (outliers : L
     o-length : length (s .outliers) ≡ ko
     o-length = ap length (sym o-seen) ∙ length-map (take ko outliers) (microIn d) ∙ o-size
 
-    module _ (target : Target) (place : ℕ) (m : Micro) (r : Ready target place s) where
+    module _ (target : Target) (place : ℕ) (m : DenMicro) (r : Ready target place s) where
       -- an outlier that grew moves to the end of the potential ones
       promotion-place : target ≡ Promotion → place < ko
       promotion-place e = let w : place < length (s .outliers) = subst (λ (u : Target). Ready u place s) e r in omega (arith, w, o-length)
@@ -113,7 +113,7 @@ module _ (d : ℕ) (potential : List Micro) (potentialCount : ℕ) (outliers : L
           let a : length (without place (take ko outliers)) + 1 ≡ length (take ko outliers) = without-length place (take ko outliers) (omega (arith, o-size)) in
           let b : rest .count ≡ length (without place (take ko outliers)) = cl ∙ ap length el in
           ap₂ pooled
-          (seen-more d np (potentialHeld (np + 1)) potential m (omega arith) (omega arith) ∙ ap (λ (l : List Micro). l ++ microIn d m ∷ []) p-seen)
+          (seen-more d np (potentialHeld (np + 1)) potential m (omega arith) (omega arith) ∙ ap (λ (l : List DenMicro). l ++ microIn d m ∷ []) p-seen)
           (ap (λ (n : ℕ). seen d n (rest .micros)) (let c : outliersHeld (np + 1) (rest .count) ≡ rest .count = omega (arith, o-size) in c)
           ∙ ap (map (microIn d)) el ∙ map-without (microIn d) place (take ko outliers) ∙ ap (without place) o-seen)
           ∙ ap (λ (u : Target). pooledAt u place (microIn d m) s) (sym e)
@@ -128,7 +128,7 @@ module _ (d : ℕ) (potential : List Micro) (potentialCount : ℕ) (outliers : L
       comes e =
           ap (pooled (s .potential))
           (seen-more d ko (outliersHeld potentialCount (ko + 1)) outliers m (omega (arith, newborn-low e)) (omega (arith, newborn-low e))
-          ∙ ap (λ (l : List Micro). l ++ microIn d m ∷ []) o-seen)
+          ∙ ap (λ (l : List DenMicro). l ++ microIn d m ∷ []) o-seen)
           ∙ ap (λ (u : Target). pooledAt u place (microIn d m) s) (sym e)
 
     -- a pruning of both pools
