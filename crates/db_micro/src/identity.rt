@@ -1,5 +1,4 @@
 // Single parts of the micro-clusters, in the order of the list.
-use feature::Spherical;
 use model::Body;
 use model::DbMicro;
 use model::MICROS;
@@ -31,10 +30,7 @@ pub fn bodies(micros: [DbMicro; MICROS], n: usize) -> [Body; MICROS]
     ensures { λ r. ⌜ take n r ≡ map bodyOf (take n micros) ⌝ }
 {
     let k = lists::cut(n, MICROS);
-    let none = Body {
-        cf: Spherical::new(),
-        last: 0.0,
-    };
+    let none = Body::new();
     let mut all = [none; MICROS];
     let mut i: usize = 0;
     while i < k {

@@ -32,16 +32,17 @@ pub fn n_clusters(stream: DbStream) -> usize
 pub fn try_predict(stream: DbStream, x: &[f64]) -> Prediction
     ensures { λ r. ⌜ predictionSaid r ≡ predictOf (view stream) (now (x .entry)) ⌝ }
 {
+    let settings = stream.params.settings;
     let micros = stream.micros;
+    let bodies = db_micro::bodies(micros, stream.count);
     let labels = stream.labels;
-    let dim = stream.params.settings.dim;
-    db_micro::predict(
-        micros,
+    readout::predict(
+        bodies,
         stream.count,
         labels,
         stream.label_count,
-        stream.params.settings.r,
-        dim,
+        settings.r * settings.r,
+        settings.dim,
         x,
     )
 }
@@ -55,15 +56,15 @@ pub fn micro_stats(
 ) -> ReadOut
     ensures { λ r. ⌜ statisticsTold r (now (centres .exit)) (now (weights .exit)) (now (radii .exit)) ≡ statisticsOf (view stream) (now (centres .entry)) (now (weights .entry)) (now (radii .entry)) ⌝ }
 {
+    let settings = stream.params.settings;
     let micros = stream.micros;
-    let lambda = stream.params.settings.lambda;
-    let dim = stream.params.settings.dim;
-    db_micro::statistics(
-        micros,
+    let bodies = db_micro::bodies(micros, stream.count);
+    readout::statistics(
+        bodies,
         stream.count,
-        lambda,
+        settings.lambda,
         stream.t,
-        dim,
+        settings.dim,
         centres,
         weights,
         radii,

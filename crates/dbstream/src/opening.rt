@@ -1,7 +1,7 @@
 // A stream is opened.
 use crate::stream::DbStream;
 use drift::DriftMonitor;
-use feature::Spherical;
+use model::Body;
 use model::DbMicro;
 use model::DbParams;
 use model::DbSettings;
@@ -30,8 +30,10 @@ impl DbStream {
         ensures { λ s. ⌜ view s ≡ fresh (withDim settings (min (settings .dim) maxDim)) ⌝ }
     {
         let id = MicroId(0);
-        let cf = Spherical::new();
-        let micro = DbMicro { cf, last: 0.0, id };
+        let micro = DbMicro {
+            body: Body::new(),
+            id,
+        };
         let link = Link {
             lo: id,
             hi: id,

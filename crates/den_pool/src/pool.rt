@@ -1,6 +1,5 @@
 // The array of a pool, and how many of its places are held.
 use feature::MAX_DIM;
-use feature::Spherical;
 use model::Body;
 use model::DenMicro;
 use model::MICROS;
@@ -82,10 +81,7 @@ pub fn bodies(pool: [DenMicro; MICROS], n: usize) -> [Body; MICROS]
     ensures { λ r. ⌜ take n r ≡ map bodyOf (take n pool) ⌝ }
 {
     let k = lists::cut(n, MICROS);
-    let none = Body {
-        cf: Spherical::new(),
-        last: 0.0,
-    };
+    let none = Body::new();
     let mut all = [none; MICROS];
     let mut i: usize = 0;
     while i < k {

@@ -32,10 +32,10 @@ pub fn try_predict(stream: DenStream, x: &[f64]) -> Prediction
     let params = stream.params;
     let n = den_placement::potential_held(stream.potential_count);
     let potential = stream.potential;
-    let features = den_pool::features(potential, n);
+    let bodies = den_pool::bodies(potential, n);
     let labels = stream.labels;
     readout::predict(
-        features,
+        bodies,
         n,
         labels,
         stream.label_count,
@@ -57,12 +57,12 @@ pub fn potential_stats(
     let params = stream.params;
     let n = den_placement::potential_held(stream.potential_count);
     let potential = stream.potential;
-    let features = den_pool::features(potential, n);
-    let faded = den_pool::faded_weights(potential, n, params.settings.lambda, stream.t);
+    let bodies = den_pool::bodies(potential, n);
     readout::statistics(
-        features,
-        faded,
+        bodies,
         n,
+        params.settings.lambda,
+        stream.t,
         params.settings.dim,
         centres,
         weights,

@@ -1,5 +1,6 @@
 // What a pruning leaves.
 use crate::stream::DenStream;
+use den_pool::Rank;
 ghost use mathlib.Core.Path.{_≡_};
 ghost use Rattle.model.specs.Stream.{cleanedOf};
 ghost use Rattle.model.specs.Denstream.{denstream};
@@ -16,8 +17,8 @@ impl DenStream {
         let no = den_placement::outliers_held(self.potential_count, self.outlier_count);
         let potential = self.potential;
         let outliers = self.outliers;
-        let p = den_pool::prune_potential(potential, np, params, t);
-        let o = den_pool::prune_outliers(outliers, no, params, t);
+        let p = den_pool::pruned(Rank::Potential, potential, np, params, t);
+        let o = den_pool::pruned(Rank::Outlier, outliers, no, params, t);
         let potential_left = p.micros;
         let outliers_left = o.micros;
         self.potential = potential_left;

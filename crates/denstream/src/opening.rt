@@ -1,11 +1,11 @@
 // A stream is opened.
 use crate::stream::DenStream;
 use drift::DriftMonitor;
-use feature::Spherical;
+use model::Body;
+use model::DenMicro;
 use model::DenParams;
 use model::DenSettings;
 use model::MICROS;
-use model::DenMicro;
 use model::Opening;
 ghost use Prim.Native.Nat.{min};
 ghost use mathlib.Core.Path.{_≡_};
@@ -73,8 +73,7 @@ impl DenStream {
         ensures { λ r. ⌜ view r ≡ doc.fresh (withDim settings (min (settings .dim) maxDim)) ⌝ }
     {
         let none = DenMicro {
-            cf: Spherical::new(),
-            last: 0.0,
+            body: Body::new(),
             t0: 0.0,
         };
         let bm = settings.beta * settings.mu;

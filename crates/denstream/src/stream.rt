@@ -2,9 +2,9 @@
 use drift::DriftMonitor;
 use drift::DriftReport;
 use feature::MAX_DIM;
+use model::DenMicro;
 use model::DenParams;
 use model::MICROS;
-use model::DenMicro;
 ghost use mathlib.Core.Path.{_≡_};
 ghost use lib.ListN.{length};
 ghost use Rattle.drift.specs.Monitor.{reportOf};

@@ -4,7 +4,8 @@ use feature::MAX_DIM;
 use feature::Spherical;
 ghost use mathlib.Core.Path.{_≡_};
 ghost use lib.ListN.{take};
-ghost use Rattle.feature.specs.Feature.{maxDim};
+ghost use Rattle.float.specs.Rounded.{nought};
+ghost use Rattle.feature.specs.Feature.{maxDim, empty};
 ghost use Rattle.model.specs.Body.{birth, absorbing, fadedWeight, radiusOf};
 
 // Its feature, and the clock at its latest birth or absorption.
@@ -14,6 +15,16 @@ pub struct Body {
 }
 
 impl Body {
+    // For a place that holds none.
+    pub fn new() -> Body
+        ensures { λ r. ⌜ r ≡ record { cf = empty maxDim; last = nought } ⌝ }
+    {
+        Body {
+            cf: Spherical::new(),
+            last: 0.0,
+        }
+    }
+
     // Of one point.
     pub fn birth(x: [f64; MAX_DIM], dim: usize, t: f64) -> Body
         ensures { λ r. ⌜ r ≡ birth maxDim t (take dim x) ⌝ }

@@ -97,9 +97,9 @@ fn counts(line: &mut [u8], s: DbStream) {
 
 fn put_micro(line: &mut [u8], from: usize, m: DbMicro, dim: usize) -> usize {
     let id = m.id;
-    let cf = m.cf;
+    let cf = m.body.cf;
     let i = put_number(line, from, id.0);
-    let at = put_whole(line, i, m.last);
+    let at = put_whole(line, i, m.body.last);
     put_feature(line, at, cf, dim)
 }
 

@@ -20,9 +20,9 @@ use crate::output::put_whole;
 use crate::output::say;
 use denstream::DenStream;
 use denstream::Opened;
+use model::DenMicro;
 use model::DenSettings;
 use model::MICROS;
-use model::Micro;
 use model::ReadOut;
 
 fn insert(line: &mut [u8], s: DenStream, x: &[f64]) -> DenStream {
@@ -90,9 +90,9 @@ fn counts(line: &mut [u8], s: DenStream) {
     );
 }
 
-fn put_micro(line: &mut [u8], from: usize, m: Micro, dim: usize) -> usize {
-    let cf = m.cf;
-    let l = put_whole(line, from, m.last);
+fn put_micro(line: &mut [u8], from: usize, m: DenMicro, dim: usize) -> usize {
+    let cf = m.body.cf;
+    let l = put_whole(line, from, m.body.last);
     let at = put_whole(line, l, m.t0);
     put_feature(line, at, cf, dim)
 }
@@ -100,7 +100,7 @@ fn put_micro(line: &mut [u8], from: usize, m: Micro, dim: usize) -> usize {
 fn put_micros(
     line: &mut [u8],
     from: usize,
-    micros: [Micro; MICROS],
+    micros: [DenMicro; MICROS],
     n: usize,
     dim: usize,
 ) -> usize {

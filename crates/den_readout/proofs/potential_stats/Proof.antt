@@ -1,14 +1,13 @@
 -- `potential_stats` meets its contract. Assumes nothing.
 use Prim.Native.Nat.{ℕ, min}
 use mathlib.Core.Path.{refl, ap, _∙_}
-use mathlib.Core.List.{map}
-use lib.ListN.{take}
+use mathlib.Core.List.{List, map}
 use borrow.Author.Needs.{needs}
 use Rattle.feature.specs.Feature.{maxDim}
-use Rattle.model.specs.DenInsert.{fadedWeight}
+use Rattle.model.specs.declared.body.Body.{Body}
 use Rattle.model.specs.ReadOut.{statisticsRead}
-use Rattle.readout.specs.Laws.Seen.{told}
-use Rattle.den_pool.specs.Held.{microIn, seen, featureOf}
+use Rattle.readout.specs.Laws.Seen.{bodies-are}
+use Rattle.den_pool.specs.Held.{microIn, seen, bodyOf}
 use Rattle.denstream.specs.View.{view}
 use Rattle.den_readout.proofs.potential_stats.Statement.{statement}
 use Rattle.den_readout.proofs.potential_stats.Tie as tie
@@ -16,11 +15,8 @@ use Rattle.den_readout.proofs.potential_stats.Tie as tie
 potential-held-requires : tie.Need-potential-held-requires
 potential-held-requires c κs = search needs
 
-features-requires : tie.Need-features-requires
-features-requires c κs = search needs
-
-faded-weights-requires : tie.Need-faded-weights-requires
-faded-weights-requires c κs = search needs
+bodies-requires : tie.Need-bodies-requires
+bodies-requires c κs = search needs
 
 statistics-requires : tie.Need-statistics-requires
 statistics-requires c κs = search needs
@@ -37,22 +33,23 @@ same-length-3 c = search needs
 returns : tie.Need-returns
 unfolding view
 returns c =
-    let a = c .before .before .before .before .before .before .before .before .before .before .before .before .before .before .before .before .before .before .args in
+    let e = c .before .before .before .before .before .before in
+    let a = e .before .before .before .before .before .before .before .before .before .before .before .args in
     let s = a .stream in
-    let n = c .before .before .before .before .before .before .before .before .before .before .before .before .before .potential-held in
-    let fs = c .before .before .before .before .before .before .before .before .before .before .before .features in
-    let ws = c .before .before .before .before .before .before .before .before .before .before .faded-weights in
+    let n = e .before .before .before .before .before .before .potential-held in
+    let bs = e .before .before .before .before .bodies in
     let d = min (s .params .settings .dim) maxDim in
-    told featureOf (microIn d) (s .params .settings .dim) (n .result) (λ m. refl) (s .potential) (fs .result) (fs .ensures) (fadedWeight (s .params .settings .lambda) (s .t)) (λ m. refl) (take (n .result) (ws .result)) (a .centres .now) (a .weights .now) (a .radii .now) _ (ws .ensures) (c .before .before .before .before .before .before .statistics .ensures)
-    ∙ ap (λ (h : ℕ). statisticsRead (map featureOf (seen d h (s .potential))) (map (fadedWeight (s .params .settings .lambda) (s .t)) (seen d h (s .potential))) (a .centres .now) (a .weights .now) (a .radii .now)) (n .ensures)
+    e .statistics .ensures
+    ∙ ap (λ (l : List Body). statisticsRead (s .params .settings .lambda) (s .t) l (a .centres .now) (a .weights .now) (a .radii .now))
+    (bodies-are bodyOf (microIn d) (s .params .settings .dim) (λ m. refl) (n .result) (bs .result) (s .potential) (bs .ensures)
+    ∙ ap (λ (h : ℕ). map bodyOf (seen d h (s .potential))) (n .ensures))
 
 pub potential-stats-spec : {M : Type 1} → statement M
 potential-stats-spec =
     tie.close
     (tie.spec
     potential-held-requires
-    features-requires
-    faded-weights-requires
+    bodies-requires
     statistics-requires
     same-length
     same-length-2

@@ -1,0 +1,42 @@
+-- `micro_stats` meets its contract. Assumes nothing.
+use Prim.Native.Nat.{min}
+use mathlib.Core.Path.{refl, ap, _∙_}
+use mathlib.Core.List.{List}
+use borrow.Author.Needs.{needs}
+use Rattle.feature.specs.Feature.{maxDim}
+use Rattle.model.specs.declared.body.Body.{Body}
+use Rattle.model.specs.ReadOut.{statisticsRead}
+use Rattle.readout.specs.Laws.Seen.{bodies-are}
+use Rattle.db_micro.specs.Held.{cutTo, bodyOf}
+use Rattle.db_readout.proofs.micro_stats.Statement.{statement}
+use Rattle.db_readout.proofs.micro_stats.Tie as tie
+
+bodies-requires : tie.Need-bodies-requires
+bodies-requires c κs = search needs
+
+statistics-requires : tie.Need-statistics-requires
+statistics-requires c κs = search needs
+
+same-length : tie.Need-same-length
+same-length c = search needs
+
+same-length-2 : tie.Need-same-length-2
+same-length-2 c = search needs
+
+same-length-3 : tie.Need-same-length-3
+same-length-3 c = search needs
+
+returns : tie.Need-returns
+returns c =
+    let e = c .before .before .before .before .before .before in
+    let a = e .before .before .before .before .before .before .before .before .before .before .args in
+    let s = a .stream in
+    let bs = e .before .before .before .before .bodies in
+    let p = s .params .settings in
+    let d = min (p .dim) maxDim in
+    e .statistics .ensures
+    ∙ ap (λ (l : List Body). statisticsRead (p .lambda) (s .t) l (a .centres .now) (a .weights .now) (a .radii .now))
+    (bodies-are bodyOf (cutTo d) (p .dim) (λ m. refl) (s .count) (bs .result) (s .micros) (bs .ensures))
+
+pub micro-stats-spec : {M : Type 1} → statement M
+micro-stats-spec = tie.close (tie.spec bodies-requires statistics-requires same-length same-length-2 same-length-3 returns)
