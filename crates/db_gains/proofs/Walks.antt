@@ -8,6 +8,7 @@ use lib.Ieee.{Float}
 use Rattle.model.specs.declared.micro.MicroId.{MicroId}
 use Rattle.model.specs.declared.link.Link.{Link}
 use Rattle.model.specs.DbInsert.{before}
+use Rattle.model.specs.Limits.{microsMost}
 use Rattle.db_link.specs.Order.{keyOf}
 use Rattle.db_gains.specs.declared.walk.Walk.{Walk}
 use Rattle.db_gains.specs.Walk.{idAt, walkTo, nextOf}
@@ -18,7 +19,7 @@ module _ (ids : List MicroId) (t : Float) (w : Walk) where
       _≡_ {A = Walk} (record { i = i; j = j; p = cond b 0 (w .p); key = key }) (walkTo ids t w i j)
   walked i j key b e f = rw (← f, e)
 
-  module _ (k i j : ℕ) (ei : i ≡ min (w .i) 64) (ej : j ≡ min (w .j) 64) where
+  module _ (k i j : ℕ) (ei : i ≡ min (w .i) microsMost) (ej : j ≡ min (w .j) microsMost) where
     pub next-in : (r : Walk) → r ≡ walkTo ids t w i (j + 1) → j + 1 < k → r ≡ nextOf ids k t w
     next-in r is h = is ∙ rw (← ei, ← ej, lt-ltb (j + 1) k h)
 

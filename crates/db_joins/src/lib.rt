@@ -9,14 +9,14 @@ ghost use Prim.Native.Nat.{_≤_};
 ghost use lib.Ieee.{le};
 ghost use lib.ListN.{take, getD};
 ghost use Rattle.union_find.specs.Pairs.{pairsOf};
-ghost use Rattle.model.specs.Limits.{linksMost};
+ghost use Rattle.model.specs.Limits.{microsMost, linksMost};
 ghost use Rattle.model.specs.Families.{labelsBy};
 ghost use Rattle.model.specs.DbInsert.{fadedLink};
 ghost use Rattle.db_joins.specs.Joined.{placeAmong, joinedBy};
 
 // The place of a creation number among the first n; how many they are where it is none of them.
 fn place_of(ids: [MicroId; MICROS], n: usize, id: MicroId) -> usize
-    requires { ⌜ n ≤ 64 ⌝ }
+    requires { ⌜ n ≤ microsMost ⌝ }
     ensures { λ r. ⌜ r ≡ placeAmong (take n ids) id ⌝ }
 {
     let mut i: usize = 0;
@@ -32,7 +32,7 @@ fn place_of(ids: [MicroId; MICROS], n: usize, id: MicroId) -> usize
 
 // Whether the place is strong: none past the first n is.
 fn is_strong(strong: [bool; MICROS], n: usize, i: usize) -> bool
-    requires { ⌜ n ≤ 64 ⌝ }
+    requires { ⌜ n ≤ microsMost ⌝ }
     ensures { λ r. ⌜ r ≡ getD (take n strong) i false ⌝ }
 {
     if i < n { strong[i] } else { false }
@@ -49,7 +49,7 @@ fn joins(
     t: f64,
     dense: f64,
 ) -> bool
-    requires { ⌜ n ≤ 64 ⌝ }
+    requires { ⌜ n ≤ microsMost ⌝ }
     ensures { λ r. ⌜ r ≡ (getD (take n strong) i false && getD (take n strong) j false && le dense (fadedLink lambda t l)) ⌝ }
 {
     if is_strong(strong, n, i) {

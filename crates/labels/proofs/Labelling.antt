@@ -11,6 +11,7 @@ use lib.IntN.{ℤ, pos, negsuc}
 use lib.ListN.{length, take, drop, getD, set, replicate, length-set, length-take, length-replicate, take-append-drop}
 use lib.Seq.{drop-cons, take-suc-set, drop-set-lt, append-snoc, set-getD, length-take-le}
 use borrow.Author.Tests.{eq-eqb, ne-eqb}
+use Rattle.union_find.specs.Forest.{places}
 use Rattle.labels.proofs.Cuts.{cut-take, left-next, left-none}
 use Rattle.labels.specs.Label.{placeIn, meet, labelsFrom, labelsOf, labelsIn}
 use Rattle.labels.specs.Laws.Label.{place-le, meet-old, meet-new, metBy}
@@ -38,21 +39,21 @@ place-most v count met = omega (arith, place-le v (take count met), length-take 
 
 -- ---- the labels written so far; `count` roots are met
 pub record Labelling (mask : List Bool) (roots : List ℕ) (end : ℕ) (labels : List ℤ) (met : List ℕ) (count i : ℕ) : Type 0 where
-  pub size : length labels ≡ 64
-  pub room : length met ≡ 64
+  pub size : length labels ≡ places
+  pub room : length met ≡ places
   pub few : count ≤ i
   pub within : i ≤ end
   -- those written, and those that the places left will get
   pub made : take i labels ++ labelsFrom (take count met) (drop i (take end mask)) (drop i roots) ≡ labelsOf (take end mask) roots
-  pub rest : drop i labels ≡ replicate (64 - i) (negsuc 0)
+  pub rest : drop i labels ≡ replicate (places - i) (negsuc 0)
 
-pub labels-start : (mask : List Bool) (roots : List ℕ) (end : ℕ) → Labelling mask roots end (replicate 64 (negsuc 0)) (replicate 64 0) 0 0
+pub labels-start : (mask : List Bool) (roots : List ℕ) (end : ℕ) → Labelling mask roots end (replicate places (negsuc 0)) (replicate places 0) 0 0
 unfolding labelsOf
 labels-start mask roots end =
-    record { size = length-replicate 64 (negsuc 0); room = length-replicate {A = ℕ} 64 0; few = omega arith; within = omega arith; made = refl; rest = refl }
+    record { size = length-replicate places (negsuc 0); room = length-replicate {A = ℕ} places 0; few = omega arith; within = omega arith; made = refl; rest = refl }
 
 module _ (mask : List Bool) (roots : List ℕ) (end : ℕ) (labels : List ℤ) (met : List ℕ) (count i : ℕ) (l : Labelling mask roots end labels met count i)
-    (h : i < end) (he : end ≤ 64) (lm : length mask ≡ 64) (lr : length roots ≡ 64) where
+    (h : i < end) (he : end ≤ places) (lm : length mask ≡ places) (lr : length roots ≡ places) where
   abbrev v : ℕ
   v = getD roots i 0
 
@@ -67,12 +68,12 @@ module _ (mask : List Bool) (roots : List ℕ) (end : ℕ) (labels : List ℤ) (
   length-us = length-take-le count met (omega (arith, l .few, l .room))
 
   -- what is left of the array begins with the label that the place i has so far
-  unwritten : getD labels i (negsuc 0) ∷ drop (suc i) labels ≡ replicate (suc (63 - i)) (negsuc 0)
+  unwritten : getD labels i (negsuc 0) ∷ drop (suc i) labels ≡ replicate (suc (places - suc i)) (negsuc 0)
   unwritten =
-      let q : 64 - i ≡ suc (63 - i) = omega arith in
+      let q : places - i ≡ suc (places - suc i) = omega arith in
       sym (drop-cons labels i (negsuc 0) (omega (arith, l .size))) ∙ l .rest ∙ ap (λ (k : ℕ). replicate k (negsuc 0)) q
 
-  labels-next : (b : Bool) → getD mask i false ≡ b → (met′ : List ℕ) (count′ : ℕ) → length met′ ≡ 64 → count′ ≤ i + 1 → take count′ met′ ≡ metBy us b v
+  labels-next : (b : Bool) → getD mask i false ≡ b → (met′ : List ℕ) (count′ : ℕ) → length met′ ≡ places → count′ ≤ i + 1 → take count′ met′ ≡ metBy us b v
       → Labelling mask roots end (set labels i (z b)) met′ count′ (i + 1)
   unfolding labelsFrom
   labels-next b eb met′ count′ room′ few′ e =
@@ -87,7 +88,7 @@ module _ (mask : List Bool) (roots : List ℕ) (end : ℕ) (labels : List ℤ) (
             ∙ append-snoc (take i labels) (z b) (labelsFrom (metBy us b v) (drop (suc i) (take end mask)) (drop (suc i) roots))
             ∙ ap₂ (λ (bs : List Bool) (rs : List ℕ). take i labels ++ labelsFrom us bs rs) (sym mask-drop) (sym (drop-cons roots i 0 (omega arith)))
             ∙ l .made;
-        rest = let q : 64 - (i + 1) ≡ 63 - i = omega arith in
+        rest = let q : places - (i + 1) ≡ places - suc i = omega arith in
             ap (λ (k : ℕ). drop k (set labels i (z b))) (add-one i) ∙ drop-set-lt (suc i) labels i (z b) (omega arith)
             ∙ ap (drop 1) unwritten ∙ ap (λ (k : ℕ). replicate k (negsuc 0)) (sym q);
       }
@@ -122,14 +123,14 @@ module _ (mask : List Bool) (roots : List ℕ) (end : ℕ) (labels : List ℤ) (
           ∙ sym (meet-new us v (omega (arith, length-us)))
 
 pub labels-end :
-    (mask : List Bool) (roots : List ℕ) (n end : ℕ) (labels : List ℤ) (met : List ℕ) (count : ℕ) → end ≡ min n 64 → length mask ≡ 64 →
+    (mask : List Bool) (roots : List ℕ) (n end : ℕ) (labels : List ℤ) (met : List ℕ) (count : ℕ) → end ≡ min n places → length mask ≡ places →
     Labelling mask roots end labels met count end →
     labels ≡ labelsIn roots mask n
 unfolding labelsIn labelsFrom
 labels-end mask roots n end labels met count en lm l =
     sym (take-append-drop end labels)
     ∙ ap₂ _++_ (written ∙ ap (λ (bs : List Bool). labelsOf bs roots) (cut-take n end mask (omega arith)))
-    (l .rest ∙ ap (λ (k : ℕ). replicate (64 - k) (negsuc 0)) en)
+    (l .rest ∙ ap (λ (k : ℕ). replicate (places - k) (negsuc 0)) en)
   where
     written : take end labels ≡ labelsOf (take end mask) roots
     written =

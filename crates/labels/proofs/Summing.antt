@@ -12,28 +12,28 @@ use lib.ListN.{length, take, drop, getD, set, replicate, length-set, length-repl
 use lib.Seq.{getD-set-same, getD-set-other, ext-getD}
 use lib.Ieee.{Float, binary64, add, ofBits, nan}
 use borrow.Author.Tests.{eq-eqb, ne-eqb}
-use Rattle.labels.proofs.Cuts.{cut-take, left-next, left-none}
-use Rattle.union_find.specs.Forest.{table}
 use Rattle.union_find.specs.Laws.Union.{table-length, table-at}
+use Rattle.union_find.specs.Forest.{places, table}
+use Rattle.labels.proofs.Cuts.{cut-take, left-next, left-none}
 use Rattle.labels.specs.Group.{sumFrom, sumsOf}
 use Rattle.labels.specs.Laws.Group.{sum-step, sum-none}
 
 -- the sums of the places passed; adding those left gives the whole
 pub record Summing (roots : List ℕ) (weights : List Float) (end : ℕ) (sums : List Float) (i : ℕ) : Type 0 where
-  pub size : length sums ≡ 64
+  pub size : length sums ≡ places
   pub within : i ≤ end
-  pub made : (v : ℕ) → v < 64 → sumFrom (getD sums v nan) v (drop i roots) (drop i (take end weights)) ≡ sumFrom (ofBits binary64 0) v roots (take end weights)
+  pub made : (v : ℕ) → v < places → sumFrom (getD sums v nan) v (drop i roots) (drop i (take end weights)) ≡ sumFrom (ofBits binary64 0) v roots (take end weights)
 
-pub sums-start : (roots : List ℕ) (weights : List Float) (end : ℕ) → Summing roots weights end (replicate 64 (ofBits binary64 0)) 0
+pub sums-start : (roots : List ℕ) (weights : List Float) (end : ℕ) → Summing roots weights end (replicate places (ofBits binary64 0)) 0
 sums-start roots weights end =
     record {
-      size = length-replicate 64 (ofBits binary64 0);
+      size = length-replicate places (ofBits binary64 0);
       within = omega arith;
-      made = λ v hv. ap (λ (s : Float). sumFrom s v roots (take end weights)) (getD-replicate 64 v (ofBits binary64 0) nan hv);
+      made = λ v hv. ap (λ (s : Float). sumFrom s v roots (take end weights)) (getD-replicate places v (ofBits binary64 0) nan hv);
     }
 
 module _ (roots : List ℕ) (weights : List Float) (end : ℕ) (sums : List Float) (i : ℕ) (t : Summing roots weights end sums i) (h : i < end)
-    (he : end ≤ 64) (lr : length roots ≡ 64) (lw : length weights ≡ 64) where
+    (he : end ≤ places) (lr : length roots ≡ places) (lw : length weights ≡ places) where
   abbrev r : ℕ
   r = getD roots i 0
 
@@ -41,8 +41,8 @@ module _ (roots : List ℕ) (weights : List Float) (end : ℕ) (sums : List Floa
   w = getD weights i nan
 
   sums-next :
-      (sums′ : List Float) → length sums′ ≡ 64 →
-      ((v : ℕ) → v < 64 → getD sums′ v nan ≡ cond (eqb r v) (add binary64 (getD sums v nan) w) (getD sums v nan)) →
+      (sums′ : List Float) → length sums′ ≡ places →
+      ((v : ℕ) → v < places → getD sums′ v nan ≡ cond (eqb r v) (add binary64 (getD sums v nan) w) (getD sums v nan)) →
       Summing roots weights end sums′ (i + 1)
   sums-next sums′ size′ e =
       record {
@@ -57,7 +57,7 @@ module _ (roots : List ℕ) (weights : List Float) (end : ℕ) (sums : List Floa
       }
 
   -- the root is a place, or it is none
-  pub sums-take : r < 64 → Summing roots weights end (set sums r (add binary64 (getD sums r nan) w)) (i + 1)
+  pub sums-take : r < places → Summing roots weights end (set sums r (add binary64 (getD sums r nan) w)) (i + 1)
   sums-take hr =
       sums-next (set sums r x) (length-set sums r x ∙ t .size)
       (λ v hv.
@@ -71,25 +71,25 @@ module _ (roots : List ℕ) (weights : List Float) (end : ℕ) (sums : List Floa
       x : Float
       x = add binary64 (getD sums r nan) w
 
-  pub sums-pass : 64 ≤ r → Summing roots weights end sums (i + 1)
+  pub sums-pass : places ≤ r → Summing roots weights end sums (i + 1)
   sums-pass hr =
       sums-next sums (t .size) (λ v hv. sym (ap (λ (b : Bool). cond b (add binary64 (getD sums v nan) w) (getD sums v nan))
       (ne-eqb r v (λ (e : r ≡ v). omega arith))))
 
 pub sums-end :
-    (roots : List ℕ) (weights : List Float) (n end : ℕ) (sums : List Float) → end ≡ min n 64 → length weights ≡ 64 →
+    (roots : List ℕ) (weights : List Float) (n end : ℕ) (sums : List Float) → end ≡ min n places → length weights ≡ places →
     Summing roots weights end sums end →
     sums ≡ sumsOf roots (take n weights)
 unfolding sumsOf
 sums-end roots weights n end sums en lw t =
-    ext-getD nan sums (table 64 sum) (t .size ∙ sym (table-length 64 sum))
+    ext-getD nan sums (table places sum) (t .size ∙ sym (table-length places sum))
     (λ v hv.
-    let h : v < 64 = omega (arith, t .size) in
+    let h : v < places = omega (arith, t .size) in
     sym (sum-none (getD sums v nan) v (drop end roots))
     ∙ ap (λ (ws : List Float). sumFrom (getD sums v nan) v (drop end roots) ws) (sym (left-none end end weights (omega arith)))
     ∙ t .made v h
     ∙ ap (λ (ws : List Float). sumFrom (ofBits binary64 0) v roots ws) (cut-take n end weights (omega arith))
-    ∙ sym (table-at 64 sum nan v h))
+    ∙ sym (table-at places sum nan v h))
   where
     sum : ℕ → Float
     sum v = sumFrom (ofBits binary64 0) v roots (take n weights)

@@ -5,11 +5,12 @@ ghost use mathlib.Core.Path.{_≡_};
 ghost use Prim.Native.Nat.{_≤_};
 ghost use lib.IntN.{pos};
 ghost use lib.ListN.{take};
+ghost use Rattle.union_find.specs.Forest.{places};
 ghost use Rattle.labels.specs.Label.{placeIn, labelsIn};
 
 // The place of v among the first `count` of `met`; `count` if it is none of them.
 fn place_in(met: [usize; PLACES], count: usize, v: usize) -> usize
-    requires { ⌜ count ≤ 64 ⌝ }
+    requires { ⌜ count ≤ places ⌝ }
     ensures { λ r. ⌜ r ≡ placeIn v (take count met) ⌝ }
 {
     let mut i: usize = 0;
@@ -24,7 +25,7 @@ fn place_in(met: [usize; PLACES], count: usize, v: usize) -> usize
 
 // A number of at most 64 as a label.
 fn label(k: usize) -> i64
-    requires { ⌜ k ≤ 64 ⌝ }
+    requires { ⌜ k ≤ places ⌝ }
     ensures { λ r. ⌜ r ≡ pos k ⌝ }
 {
     k as i64

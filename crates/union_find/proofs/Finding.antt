@@ -5,7 +5,7 @@ use mathlib.Core.Logic.{_≢_, inl}
 use mathlib.Core.List.{List}
 use native.Mathlib.Omega.{arith}
 use Rattle.union_find.specs.declared.forest.UnionFind.{UnionFind}
-use Rattle.union_find.specs.Forest.{up, halve, findFrom, findOf, linkOf, unionOf}
+use Rattle.union_find.specs.Forest.{places, up, halve, findFrom, findOf, linkOf, unionOf}
 use Rattle.union_find.specs.Laws.WellFormed.{halve-well}
 use Rattle.union_find.specs.Inside.WellFormed.{WellFormed, Ranked}
 use Rattle.union_find.specs.Laws.Find.{find-law, find-stop, find-on, Made, made-few, made-next, steps-less}
@@ -15,24 +15,24 @@ pub record Turn (p₀ : List ℕ) (x : ℕ) (p : List ℕ) (at : ℕ) : Type 0 w
   pub rank : List ℕ
   pub left : ℕ
   pub steps : ℕ
-  pub fuel : left + steps ≡ 64
+  pub fuel : left + steps ≡ places
   pub find : findFrom left p at steps ≡ findOf p₀ x
   pub well : WellFormed p rank
-  pub low : at < 64
+  pub low : at < places
   pub made : Made p rank at steps
 
-pub turn-start : (p : List ℕ) → Ranked p → (x : ℕ) → x < 64 → Turn p x p x
+pub turn-start : (p : List ℕ) → Ranked p → (x : ℕ) → x < places → Turn p x p x
 unfolding findOf
-turn-start p wf x hx = record { rank = wf .0; left = 64; steps = 0; fuel = refl; find = refl; well = wf .1; low = hx; made = inl (omega arith) }
+turn-start p wf x hx = record { rank = wf .0; left = places; steps = 0; fuel = refl; find = refl; well = wf .1; low = hx; made = inl (omega arith) }
 
 module _ {p₀ : List ℕ} {x : ℕ} {p : List ℕ} {at : ℕ} (t : Turn p₀ x p at) where
-  pub turn-up : up p at < 64
+  pub turn-up : up p at < places
   turn-up = t .well .low at (t .low)
 
   pub turn-next : up p at ≢ at → Turn p₀ x (halve p at) (up p (up p at))
   turn-next e = go (t .left) (t .fuel) (t .find)
     where
-      go : (k : ℕ) → k + t .steps ≡ 64 → findFrom k p at (t .steps) ≡ findOf p₀ x → Turn p₀ x (halve p at) (up p (up p at))
+      go : (k : ℕ) → k + t .steps ≡ places → findFrom k p at (t .steps) ≡ findOf p₀ x → Turn p₀ x (halve p at) (up p (up p at))
       go zero f q = absurd (omega (arith, made-few p (t .rank) (t .well) at (t .steps) (t .low) (t .made)))
       go (suc k) f q =
           record {
@@ -53,11 +53,11 @@ module _ {p₀ : List ℕ} {x : ℕ} {p : List ℕ} {at : ℕ} (t : Turn p₀ x 
   turn-less e = steps-less p (t .rank) (t .well) at (t .low) e
 
 -- what a find gives back, y and the parents q
-module _ (p r : List ℕ) (wf : WellFormed p r) (x : ℕ) (hx : x < 64) (y : ℕ) (q : List ℕ) (ey : y ≡ findOf p x .root) (eq : q ≡ findOf p x .parent) where
+module _ (p r : List ℕ) (wf : WellFormed p r) (x : ℕ) (hx : x < places) (y : ℕ) (q : List ℕ) (ey : y ≡ findOf p x .root) (eq : q ≡ findOf p x .parent) where
   pub found-well : WellFormed q r
   found-well = rw eq (find-law p r wf x hx .well)
 
-  pub found-low : y < 64
+  pub found-low : y < places
   found-low = rw ey (find-law p r wf x hx .low)
 
 -- two finds and a link are a union

@@ -10,14 +10,14 @@ use lib.ListN.{length, getD, set, drop, length-set, length-replicate, replicate}
 use lib.Seq.{getD-set-same, getD-set-other, ext-getD}
 use Rattle.union_find.specs.declared.forest.UnionFind.{UnionFind}
 use Rattle.union_find.specs.Pairs.{pairsOf}
-use Rattle.union_find.specs.Forest.{table, newOf, findOf, joinOf, joinAll, rootsOf}
+use Rattle.union_find.specs.Forest.{places, table, newOf, findOf, joinOf, joinAll, rootsOf}
 use Rattle.union_find.specs.Laws.WellFormed.{rootOf}
 use Rattle.union_find.specs.Inside.WellFormed.{Ranked, Sound}
 use Rattle.union_find.specs.Laws.Find.{Finds, find-law}
 use Rattle.union_find.specs.Laws.Union.{union-law, table-length, table-at}
 use Rattle.union_find.specs.Laws.Root.{join-in, join-out, forest-tells}
 
-pub join-sound : (n : ℕ) (u : UnionFind) (e : ℕ × ℕ) → n ≤ 64 → Sound u → Sound (joinOf n u e)
+pub join-sound : (n : ℕ) (u : UnionFind) (e : ℕ × ℕ) → n ≤ places → Sound u → Sound (joinOf n u e)
 join-sound n u e hn s =
     by-cases (decLt (e .0) n)
     (λ ha.
@@ -54,23 +54,23 @@ module _ (n : ℕ) (xs ys : List ℕ) (k : ℕ) (u : UnionFind) where
 -- ---- the roots found so far, with parents p that the finds have made of p₀
 pub record Seeking (p₀ p roots : List ℕ) (i : ℕ) : Type 0 where
   pub ranked : Ranked p
-  pub same : (k : ℕ) → k < 64 → rootOf p k ≡ rootOf p₀ k
-  pub size : length roots ≡ 64
-  pub within : i ≤ 64
+  pub same : (k : ℕ) → k < places → rootOf p k ≡ rootOf p₀ k
+  pub size : length roots ≡ places
+  pub within : i ≤ places
   pub noted : (k : ℕ) → k < i → getD roots k 0 ≡ rootOf p₀ k
 
-pub seek-start : (n : ℕ) → n ≤ 64 → (es : List (ℕ × ℕ)) (u : UnionFind) → u ≡ joinAll n newOf es → Seeking (u .parent) (u .parent) (replicate 64 0) 0
+pub seek-start : (n : ℕ) → n ≤ places → (es : List (ℕ × ℕ)) (u : UnionFind) → u ≡ joinAll n newOf es → Seeking (u .parent) (u .parent) (replicate places 0) 0
 seek-start n hn es u e =
     record {
       ranked = (u .rank, subst Sound (sym e) (forest-tells n hn es .sound));
       same = λ k hk. refl;
-      size = length-replicate {A = ℕ} 64 0;
+      size = length-replicate {A = ℕ} places 0;
       within = omega arith;
       noted = λ k hk. absurd (omega arith);
     }
 
 pub seek-next :
-    (p₀ p roots : List ℕ) (i : ℕ) → Seeking p₀ p roots i → i < 64 → (x : ℕ) (q : List ℕ) → x ≡ findOf p i .root → q ≡ findOf p i .parent →
+    (p₀ p roots : List ℕ) (i : ℕ) → Seeking p₀ p roots i → i < places → (x : ℕ) (q : List ℕ) → x ≡ findOf p i .root → q ≡ findOf p i .parent →
     Seeking p₀ q (set roots i x) (i + 1)
 seek-next p₀ p roots i s hi x q ex eq =
     subst (λ (q : List ℕ). Seeking p₀ q (set roots i x) (i + 1)) (sym eq)
@@ -90,18 +90,18 @@ seek-next p₀ p roots i s hi x q ex eq =
     f = find-law p (s .ranked .0) (s .ranked .1) i hi
 
 pub seek-end :
-    (n m : ℕ) → m ≡ min n 64 → (es : List (ℕ × ℕ)) (u : UnionFind) → u ≡ joinAll m newOf es → (p roots : List ℕ) → Seeking (u .parent) p roots 64 →
+    (n m : ℕ) → m ≡ min n places → (es : List (ℕ × ℕ)) (u : UnionFind) → u ≡ joinAll m newOf es → (p roots : List ℕ) → Seeking (u .parent) p roots places →
     roots ≡ rootsOf n es
 unfolding rootsOf
 seek-end n m em es u e p roots s =
-    ext-getD 0 roots (table 64 root) (s .size ∙ sym (table-length 64 root))
+    ext-getD 0 roots (table places root) (s .size ∙ sym (table-length places root))
     (λ k hk.
-    let h : k < 64 = omega (arith, s .size) in
+    let h : k < places = omega (arith, s .size) in
     s .noted k h ∙ ap (λ (v : UnionFind). rootOf (v .parent) k) is ∙ sym (find-law (forest .parent) (forest .rank) sound k h .is-root)
-    ∙ sym (table-at 64 root 0 k h))
+    ∙ sym (table-at places root 0 k h))
   where
     forest : UnionFind
-    forest = joinAll (min n 64) newOf es
+    forest = joinAll (min n places) newOf es
 
     is : u ≡ forest
     is = e ∙ ap (λ (q : ℕ). joinAll q newOf es) em
@@ -110,4 +110,4 @@ seek-end n m em es u e p roots s =
     root i = findOf (forest .parent) i .root
 
     sound : Sound forest
-    sound = forest-tells (min n 64) (omega arith) es .sound
+    sound = forest-tells (min n places) (omega arith) es .sound

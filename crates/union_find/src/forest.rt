@@ -4,7 +4,7 @@ use lists::cut;
 ghost use mathlib.Core.Path.{_≡_};
 ghost use Prim.Native.Nat.{_<_, _≤_};
 ghost use Rattle.union_find.specs.Pairs.{pairsOf};
-ghost use Rattle.union_find.specs.Forest.{newOf, findOf, linkOf, unionOf, joinOf, joinAll, rootsOf};
+ghost use Rattle.union_find.specs.Forest.{places, newOf, findOf, linkOf, unionOf, joinOf, joinAll, rootsOf};
 ghost use Rattle.union_find.specs.Inside.WellFormed.{Ranked, Sound};
 
 struct UnionFind {
@@ -29,7 +29,7 @@ impl UnionFind {
 
     // The root of x; each place met on the way up gets its grandparent for a parent.
     fn find(parent: &mut [usize; PLACES], x: usize) -> usize
-        requires { ⌜ (Ranked (now parent)) × (x < 64) ⌝ }
+        requires { ⌜ (Ranked (now parent)) × (x < places) ⌝ }
         ensures { λ r. ⌜ (r ≡ findOf (now (parent .entry)) x .root) × (now (parent .exit) ≡ findOf (now (parent .entry)) x .parent) ⌝ }
     {
         let mut at = x;
@@ -44,7 +44,7 @@ impl UnionFind {
 
     // The roots x and y made one: the lower rank goes under the higher, and of equals y under x.
     fn link(self, x: usize, y: usize) -> Self
-        requires { ⌜ (Sound self) × (x < 64) × (y < 64) ⌝ }
+        requires { ⌜ (Sound self) × (x < places) × (y < places) ⌝ }
         ensures { λ r. ⌜ r ≡ linkOf self x y ⌝ }
     {
         if x == y {
@@ -64,7 +64,7 @@ impl UnionFind {
     }
 
     fn union(mut self, a: usize, b: usize) -> Self
-        requires { ⌜ (Sound self) × (a < 64) × (b < 64) ⌝ }
+        requires { ⌜ (Sound self) × (a < places) × (b < places) ⌝ }
         ensures { λ r. ⌜ r ≡ unionOf self a b ⌝ }
     {
         let x = UnionFind::find(&mut self.parent, a);
@@ -74,7 +74,7 @@ impl UnionFind {
 
     // A pair with a place that is not below n joins nothing.
     fn join(self, a: usize, b: usize, n: usize) -> Self
-        requires { ⌜ (Sound self) × (n ≤ 64) ⌝ }
+        requires { ⌜ (Sound self) × (n ≤ places) ⌝ }
         ensures { λ r. ⌜ r ≡ joinOf n self (a, b) ⌝ }
     {
         if a < n {
@@ -88,7 +88,7 @@ impl UnionFind {
 
 // The forest after the pairs of a and b were joined in order.
 fn joined(a: &[usize], b: &[usize], n: usize) -> UnionFind
-    requires { ⌜ n ≤ 64 ⌝ }
+    requires { ⌜ n ≤ places ⌝ }
     ensures { λ r. ⌜ r ≡ joinAll n newOf (pairsOf (now (a .entry)) (now (b .entry))) ⌝ }
 {
     let end = cut(a.len(), b.len());

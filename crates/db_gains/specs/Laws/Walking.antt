@@ -6,7 +6,7 @@
 --     end                     no pair is left: every gain is made
 --     less-next               the next pair is one fewer
 --     absent-at, absent-end   the key has no link from p on
-use Prim.Native.Nat.{ℕ, suc, _+_, _≤_, _<_, min}
+use Prim.Native.Nat.{ℕ, suc, _+_, _-_, _≤_, _<_, min}
 use native.Mathlib.Numerals.{add-one}
 use native.Mathlib.Omega.{arith}
 use native.Mathlib.Decide.{decLt}
@@ -49,7 +49,7 @@ pairsLeft ids k w = length (pairsFrom k ids (w .i) (w .j))
 module _ (ids : List MicroId) (k : ℕ) (among : k ≤ microsMost) (all : length ids ≡ microsMost) where
   id-at : (i : ℕ) → i < k → idAt ids i ≡ getD ids i (record { 0 = 0 })
   id-at i h =
-      let e : min i 63 ≡ i = omega arith in
+      let e : min i (microsMost - 1) ≡ i = omega arith in
       ap (λ (m : ℕ). getD ids m (record { 0 = 0 })) e
 
   fits : k ≤ length ids
@@ -191,14 +191,14 @@ module _ {lambda t : Float} {ids : List MicroId} {k : ℕ} {goal ls : List Link}
 
     next-here : w .j + 1 < k → nextOf ids k t w ≡ walkTo ids t w (w .i) (w .j + 1)
     next-here h =
-        let a : min (w .i) 64 ≡ w .i = omega (arith, low, s .among) in
-        let b : min (w .j) 64 ≡ w .j = omega (arith, live, s .among) in
+        let a : min (w .i) microsMost ≡ w .i = omega (arith, low, s .among) in
+        let b : min (w .j) microsMost ≡ w .j = omega (arith, live, s .among) in
         rw (a, b, lt-ltb (w .j + 1) k h)
 
     next-there : k ≤ w .j + 1 → nextOf ids k t w ≡ walkTo ids t w (w .i + 1) (w .i + 1 + 1)
     next-there h =
-        let a : min (w .i) 64 ≡ w .i = omega (arith, low, s .among) in
-        let b : min (w .j) 64 ≡ w .j = omega (arith, live, s .among) in
+        let a : min (w .i) microsMost ≡ w .i = omega (arith, low, s .among) in
+        let b : min (w .j) microsMost ≡ w .j = omega (arith, live, s .among) in
         rw (a, b, le-ltb (w .j + 1) k h)
 
     advance :

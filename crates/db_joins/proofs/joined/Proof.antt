@@ -11,6 +11,7 @@ use Rattle.lists.specs.Rest.{rest}
 use Rattle.union_find.specs.Pairs.{pairsOf}
 use Rattle.model.specs.declared.micro.MicroId.{MicroId}
 use Rattle.model.specs.declared.link.Link.{Link}
+use Rattle.model.specs.Limits.{linksMost, microsMost}
 use Rattle.db_joins.specs.Joined.{joinedBy}
 use Rattle.db_joins.proofs.Pairing.{joins-by, join-take, join-skip, join-end}
 use borrow.Author.Needs.{needs}
@@ -19,8 +20,8 @@ use Rattle.db_joins.proofs.joined.Tie as tie
 
 abbrev Inv-loop : tie.InvT-loop
 Inv-loop count ids strong n lambda t dense links end held a₀ b₀ k₀ q₀ a b k q =
-    (k ≤ q) × (q ≤ end) × (end ≤ 2016) × (length a ≡ 2016) × (length b
-    ≡ 2016) × (pairsOf (take k a) (take k b) ++ joinedBy (take held ids) (take held strong) lambda t dense (rest end q links)
+    (k ≤ q) × (q ≤ end) × (end ≤ linksMost) × (length a ≡ linksMost) × (length b
+    ≡ linksMost) × (pairsOf (take k a) (take k b) ++ joinedBy (take held ids) (take held strong) lambda t dense (rest end q links)
     ≡ joinedBy (take n ids) (take n strong) lambda t dense (take count links))
 
 abbrev μ-loop : tie.MeasureT-loop
@@ -42,9 +43,9 @@ loop-holds c =
       refl,
       refl,
       ap (λ (l : List Link). joinedBy (take (c .cut2 .result) (a .ids)) (take (c .cut2 .result) (a .strong)) (a .lambda) (a .t) (a .dense) l)
-          (cut-start _ (a .count) 2016 (a .t1) (c .before .cut .ensures) (omega arith))
+          (cut-start _ (a .count) linksMost (a .t1) (c .before .cut .ensures) (omega arith))
           ∙ ap₂ (λ (x : List MicroId) (y : List Bool). joinedBy x y (a .lambda) (a .t) (a .dense) (take (a .count) (a .t1)))
-          (cut-take _ (a .n) 64 (a .ids) h (omega arith)) (cut-take _ (a .n) 64 (a .strong) h (omega arith)),
+          (cut-take _ (a .n) microsMost (a .ids) h (omega arith)) (cut-take _ (a .n) microsMost (a .strong) h (omega arith)),
     )
 
 mul-l : tie.Need-mul-l Inv-loop μ-loop

@@ -3,6 +3,7 @@ use mathlib.Core.Path.{_≡_, sym, _∙_}
 use native.Mathlib.Omega.{arith}
 use lib.ListN.{length, take, length-map}
 use lib.Seq.{length-take-le}
+use Rattle.model.specs.Limits.{linksMost}
 use Rattle.db_joins.proofs.Labelling.{labelled}
 use borrow.Author.Needs.{needs}
 use Rattle.db_joins.proofs.labels_of.Statement.{statement}
@@ -14,11 +15,11 @@ cut-requires c κs = search needs
 joined-requires : tie.Need-joined-requires
 joined-requires c κs = search needs
 
--- the arrays of the pairs have 2,016 places
-room-a : (c : tie.After-joined) → length (c .joined .result .a) ≡ 2016
+-- the arrays of the pairs have room for all links
+room-a : (c : tie.After-joined) → length (c .joined .result .a) ≡ linksMost
 room-a c = sym (length-map (c .joined .result .a) _) ∙ c .joined .ok .1 .1 .0 .1 .0 .1
 
-room-b : (c : tie.After-joined) → length (c .joined .result .b) ≡ 2016
+room-b : (c : tie.After-joined) → length (c .joined .result .b) ≡ linksMost
 room-b c = sym (length-map (c .joined .result .b) _) ∙ c .joined .ok .1 .1 .1 .0 .1 .0 .1
 
 array-share-prefix-a : tie.Need-array-share-prefix-a

@@ -12,7 +12,7 @@ use lib.Seq.{drop-cons}
 use lib.Ieee.{Float, binary64, add, ofBits, nan}
 use borrow.Author.Tests.{eq-eqb, ne-eqb}
 use Rattle.union_find.specs.Pairs.{Joined, Chain}
-use Rattle.union_find.specs.Forest.{rootsOf}
+use Rattle.union_find.specs.Forest.{places, rootsOf}
 use Rattle.union_find.specs.Laws.Union.{table-at}
 use Rattle.union_find.specs.Laws.Root.{RootsTell, roots-tell}
 use Rattle.labels.specs.Group.{sumFrom, sumsOf, Summed, done, taken, passed}
@@ -54,7 +54,7 @@ module _ {P : ℕ → Type 0} (v : ℕ) (roots : List ℕ) (h : (k : ℕ) → k 
       (λ e. subst (Summed P i sum (w ∷ ws)) (sym (sum-pass v roots i k sum w ws e)) (passed (λ p. e (h i k .0 p)) (is-sum (suc i) sum ws (omega arith))))
 
 -- the sum at a place's root is that of the weights of the places chained to it, by index from 0
-pub sums-tell : (n : ℕ) → n ≤ 64 → (es : List (ℕ × ℕ)) (ws : List Float) → length ws ≡ n → (i : ℕ) → i < n → (x : Float)
+pub sums-tell : (n : ℕ) → n ≤ places → (es : List (ℕ × ℕ)) (ws : List Float) → length ws ≡ n → (i : ℕ) → i < n → (x : Float)
     → Summed (λ k. Chain (Joined n es) k i) 0 (ofBits binary64 0) ws x ↔ (x ≡ getD (sumsOf (rootsOf n es) ws) (getD (rootsOf n es) i 0) nan)
 unfolding sumsOf
 sums-tell n hn es ws size i hi x = (
@@ -82,4 +82,4 @@ sums-tell n hn es ws size i hi x = (
     same k l = let q = tell .equal k i (omega (arith, tell .count)) (omega arith) in (q .1, q .0)
 
     at : getD (sumsOf roots ws) v nan ≡ sumFrom (ofBits binary64 0) v roots ws
-    at = table-at 64 (λ v. sumFrom (ofBits binary64 0) v roots ws) nan v (tell .low i (omega arith))
+    at = table-at places (λ v. sumFrom (ofBits binary64 0) v roots ws) nan v (tell .low i (omega arith))

@@ -11,7 +11,7 @@ use lib.ListN.{length, take, getD, replicate, length-append}
 use lib.Seq.{take-at, length-take-le}
 use borrow.Author.Tests.{eq-eqb, ne-eqb, lt-ltb, le-ltb}
 use Rattle.union_find.specs.Pairs.{Joined, Chain}
-use Rattle.union_find.specs.Forest.{rootsOf}
+use Rattle.union_find.specs.Forest.{places, rootsOf}
 use Rattle.union_find.specs.Laws.Root.{RootsTell, roots-tell}
 use Rattle.labels.specs.Label.{placeIn, meet, labelsFrom, labelsOf, labelsIn}
 
@@ -187,7 +187,7 @@ pub record LabelsTell (n : ℕ) (es : List (ℕ × ℕ)) (mask : List Bool) (lab
   -- labels count from 0 by first member: each smaller one stands before
   pub fromZero : (i k m : ℕ) → i < n → labelAt labels i ≡ pos k → m < k → (j : ℕ) × (j < i) × (labelAt labels j ≡ pos m)
 
-pub labels-tell : (n : ℕ) → n ≤ 64 → (es : List (ℕ × ℕ)) (mask : List Bool) → length mask ≡ n → LabelsTell n es mask (labelsOf mask (rootsOf n es))
+pub labels-tell : (n : ℕ) → n ≤ places → (es : List (ℕ × ℕ)) (mask : List Bool) → length mask ≡ n → LabelsTell n es mask (labelsOf mask (rootsOf n es))
 unfolding labelsOf
 labels-tell n hn es mask size =
     record {
@@ -238,9 +238,9 @@ labels-tell n hn es mask size =
 
 -- of the array that `labels` gives, the first n are these
 pub labels-first :
-    (roots : List ℕ) (mask : List Bool) (n : ℕ) → n ≤ 64 → length mask ≡ 64 → length roots ≡ 64 →
+    (roots : List ℕ) (mask : List Bool) (n : ℕ) → n ≤ places → length mask ≡ places → length roots ≡ places →
     take n (labelsIn roots mask n) ≡ labelsOf (take n mask) roots
 unfolding labelsIn labelsOf
 labels-first roots mask n hn lm lr =
     let size : length (take n mask) ≡ n = length-take-le n mask (omega arith) in
-    take-at (labelsFrom [] (take n mask) roots) (replicate (64 - min n 64) (negsuc 0)) n (labels-length [] (take n mask) roots (omega arith) ∙ size)
+    take-at (labelsFrom [] (take n mask) roots) (replicate (places - min n places) (negsuc 0)) n (labels-length [] (take n mask) roots (omega arith) ∙ size)

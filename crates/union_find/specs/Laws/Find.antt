@@ -1,5 +1,5 @@
 -- What a find does to well-formed parents: every root stays, and among 64 places at most 3 halving steps are made. Assumes nothing.
-use Prim.Native.Nat.{ℕ, zero, suc, _+_, _<_, _≤_}
+use Prim.Native.Nat.{ℕ, zero, suc, _+_, _-_, _<_, _≤_}
 use mathlib.Core.Path.{_≡_, refl, sym, _∙_, ap, subst}
 use mathlib.Core.Logic.{_≢_, _⊎_, inl, inr, ⊎-elim, by-cases}
 use mathlib.Core.List.{List}
@@ -8,7 +8,7 @@ use native.Mathlib.Decide.{ℕ-discrete}
 use lib.ListN.{getD}
 use lib.Seq.{getD-set-other}
 use borrow.Author.Tests.{eq-eqb, ne-eqb}
-use Rattle.union_find.specs.Forest.{up, halve, Found, findFrom, findOf}
+use Rattle.union_find.specs.Forest.{places, up, halve, Found, findFrom, findOf}
 use Rattle.union_find.specs.Laws.WellFormed.{rootOf, top, via, root-is, root-eq, grand-ne, halve-well, halve-keeps}
 use Rattle.union_find.specs.Inside.WellFormed.{WellFormed}
 
@@ -26,7 +26,7 @@ find-on k p x s e = rw (ne-eqb (up p x) x e)
 abbrev pub Made : List ℕ → List ℕ → ℕ → ℕ → Type 0
 Made p r x s = (s + s ≤ getD r x 0) ⊎ ((up p x ≡ x) × (s ≤ 3))
 
-module _ (p r : List ℕ) (wf : WellFormed p r) (x s : ℕ) (hx : x < 64) (m : Made p r x s) where
+module _ (p r : List ℕ) (wf : WellFormed p r) (x s : ℕ) (hx : x < places) (m : Made p r x s) where
   pub made-few : s ≤ 3
   made-few = ⊎-elim (λ h. let c : getD r x 0 ≤ 6 = wf .cap x hx in omega arith) (λ h. h .1) m
 
@@ -39,19 +39,19 @@ module _ (p r : List ℕ) (wf : WellFormed p r) (x s : ℕ) (hx : x < 64) (m : M
       by-cases (ℕ-discrete (up p (up p x)) (up p x)) (λ q. inr (kept ∙ ap (up p) q, omega arith))
       (λ q. inl (let d : getD r (up p x) 0 < getD r (up p (up p x)) 0 = wf .rise (up p x) (wf .low x hx) q in omega arith))
 
-root-up : (p r : List ℕ) → WellFormed p r → (x : ℕ) → x < 64 → rootOf p (up p x) ≡ rootOf p x
+root-up : (p r : List ℕ) → WellFormed p r → (x : ℕ) → x < places → rootOf p (up p x) ≡ rootOf p x
 root-up p r wf x hx = sym (root-eq p r wf hx (via (root-is p r wf (up p x) (wf .low x hx))))
 
 -- what a find of x leaves
 pub record Finds (p r : List ℕ) (x : ℕ) (f : Found) : Type 0 where
   pub well : WellFormed (f .parent) r
   -- every root stays
-  pub same : (i : ℕ) → i < 64 → rootOf (f .parent) i ≡ rootOf p i
+  pub same : (i : ℕ) → i < places → rootOf (f .parent) i ≡ rootOf p i
   pub is-root : f .root ≡ rootOf p x
-  pub low : f .root < 64
+  pub low : f .root < places
   pub few : f .steps ≤ 3
 
-finds : (r : List ℕ) (k : ℕ) (p : List ℕ) → WellFormed p r → (x s : ℕ) → x < 64 → 4 ≤ k + s → Made p r x s → Finds p r x (findFrom k p x s)
+finds : (r : List ℕ) (k : ℕ) (p : List ℕ) → WellFormed p r → (x s : ℕ) → x < places → 4 ≤ k + s → Made p r x s → Finds p r x (findFrom k p x s)
 finds r zero p wf x s hx hk m = absurd (let c : s ≤ 3 = made-few p r wf x s hx m in omega arith)
 finds r (suc k) p wf x s hx hk m =
     by-cases (ℕ-discrete (up p x) x)
@@ -59,7 +59,7 @@ finds r (suc k) p wf x s hx hk m =
     (record { well = wf; same = λ i hi. refl; is-root = sym (root-eq p r wf hx (top e)); low = hx; few = made-few p r wf x s hx m }))
     (λ e.
     let z = up p (up p x) in
-    let hz : z < 64 = wf .low (up p x) (wf .low x hx) in
+    let hz : z < places = wf .low (up p x) (wf .low x hx) in
     let f : Finds (halve p x) r z (findFrom k (halve p x) z (suc s)) =
     finds r k (halve p x) (halve-well p r wf x hx e) z (suc s) hz (omega arith) (made-next p r wf x s hx m e) in
     subst (Finds p r x) (sym (find-on k p x s e))
@@ -71,13 +71,13 @@ finds r (suc k) p wf x s hx hk m =
       few = f .few;
     }))
 
-pub find-law : (p r : List ℕ) → WellFormed p r → (x : ℕ) → x < 64 → Finds p r x (findOf p x)
+pub find-law : (p r : List ℕ) → WellFormed p r → (x : ℕ) → x < places → Finds p r x (findOf p x)
 unfolding findOf
-find-law p r wf x hx = finds r 64 p wf x 0 hx (omega arith) (inl (omega arith))
+find-law p r wf x hx = finds r places p wf x 0 hx (omega arith) (inl (omega arith))
 
 -- the steps that follow do not hang on those made before, nor on how many may follow
 steps-apart :
-    (r : List ℕ) (k j : ℕ) (p : List ℕ) → WellFormed p r → (x s t : ℕ) → x < 64 → 4 ≤ k + s → Made p r x s → 4 ≤ j + t → Made p r x t →
+    (r : List ℕ) (k j : ℕ) (p : List ℕ) → WellFormed p r → (x s t : ℕ) → x < places → 4 ≤ k + s → Made p r x s → 4 ≤ j + t → Made p r x t →
     findFrom k p x s .steps + t ≡ findFrom j p x t .steps + s
 steps-apart r zero j p wf x s t hx hk m hj n = absurd (let c : s ≤ 3 = made-few p r wf x s hx m in omega arith)
 steps-apart r (suc k) zero p wf x s t hx hk m hj n = absurd (let c : t ≤ 3 = made-few p r wf x t hx n in omega arith)
@@ -90,10 +90,10 @@ steps-apart r (suc k) (suc j) p wf x s t hx hk m hj n =
     rw (find-on k p x s e, find-on j p x t e) (omega arith))
 
 -- each halving leaves one step less
-pub steps-less : (p r : List ℕ) → WellFormed p r → (x : ℕ) → x < 64 → up p x ≢ x → findOf (halve p x) (up p (up p x)) .steps < findOf p x .steps
+pub steps-less : (p r : List ℕ) → WellFormed p r → (x : ℕ) → x < places → up p x ≢ x → findOf (halve p x) (up p (up p x)) .steps < findOf p x .steps
 unfolding findOf
 steps-less p r wf x hx e =
     let q =
-    steps-apart r 63 64 (halve p x) (halve-well p r wf x hx e) (up p (up p x)) 1 0 (wf .low (up p x) (wf .low x hx)) (omega arith)
+    steps-apart r (places - 1) places (halve p x) (halve-well p r wf x hx e) (up p (up p x)) 1 0 (wf .low (up p x) (wf .low x hx)) (omega arith)
     (made-next p r wf x 0 hx (inl (omega arith)) e) (omega arith) (inl (omega arith)) in
-    rw (find-on 63 p x 0 e) (omega arith)
+    rw (find-on (places - 1) p x 0 e) (omega arith)

@@ -11,7 +11,7 @@ use Rattle.union_find.specs.declared.forest.UnionFind.{UnionFind}
 use Rattle.union_find.specs.Pairs.{Joined, Chain}
 use Rattle.union_find.specs.Laws.Chain.{chain-more}
 use Rattle.union_find.specs.Laws.Merging.{Also, Within, Kernel, kernel-start, kernel-more}
-use Rattle.union_find.specs.Forest.{table, newOf, findOf, unionOf, joinOf, joinAll, rootsOf}
+use Rattle.union_find.specs.Forest.{places, table, newOf, findOf, unionOf, joinOf, joinAll, rootsOf}
 use Rattle.union_find.specs.Laws.WellFormed.{rootOf}
 use Rattle.union_find.specs.Inside.WellFormed.{Sound}
 use Rattle.union_find.specs.Laws.Find.{find-law}
@@ -35,11 +35,11 @@ kernel-same to from k i j hi hj = ((λ e. chain-more to (k i j hi hj .0 e)), (λ
 -- a forest whose equal roots are the chains of R
 pub record Tells (R : ℕ → ℕ → Type 0) (u : UnionFind) : Type 0 where
   pub sound : Sound u
-  pub kernel : Kernel 64 (rootOf (u .parent)) R
+  pub kernel : Kernel places (rootOf (u .parent)) R
 
-module _ (n : ℕ) (hn : n ≤ 64) where
+module _ (n : ℕ) (hn : n ≤ places) where
   -- after the joins of a list, where R was joined before
-  joins : (es : List (ℕ × ℕ)) (u : UnionFind) (R : ℕ → ℕ → Type 0) → Within 64 R → Tells R u → Tells (λ i j. R i j ⊎ Joined n es i j) (joinAll n u es)
+  joins : (es : List (ℕ × ℕ)) (u : UnionFind) (R : ℕ → ℕ → Type 0) → Within places R → Tells R u → Tells (λ i j. R i j ⊎ Joined n es i j) (joinAll n u es)
   joins [] u R w t = record { sound = t .sound; kernel = kernel-same (λ i j r. inl r) (λ i j. ⊎-elim (λ r. r) (λ x. absurd (x .2))) (t .kernel) }
   joins (e ∷ es) u R w t =
       by-cases (decLt (e .0) n)
@@ -52,11 +52,11 @@ module _ (n : ℕ) (hn : n ≤ 64) where
 
       into :
           e .0 < n → e .1 < n →
-          (Within 64 (Also R (e .0) (e .1)) → Tells (Also R (e .0) (e .1)) (unionOf u (e .0) (e .1)) → Tells (λ i j. Also R (e .0) (e .1) i j ⊎ Joined n es i j) (joinAll n (unionOf u (e .0) (e .1)) es)) →
+          (Within places (Also R (e .0) (e .1)) → Tells (Also R (e .0) (e .1)) (unionOf u (e .0) (e .1)) → Tells (λ i j. Also R (e .0) (e .1) i j ⊎ Joined n es i j) (joinAll n (unionOf u (e .0) (e .1)) es)) →
           After (joinOf n u e)
       into ha hb more =
-          let ga : e .0 < 64 = omega arith in
-          let gb : e .1 < 64 = omega arith in
+          let ga : e .0 < places = omega arith in
+          let gb : e .1 < places = omega arith in
           let j : Joins u (e .0) (e .1) (unionOf u (e .0) (e .1)) = union-law u (t .sound) (e .0) (e .1) ga gb in
           let m =
           more (λ a b. ⊎-elim (w a b) (λ s. (omega arith, omega arith))) (record { sound = j .sound; kernel = kernel-more ga gb w (j .merges) (t .kernel) }) in
@@ -87,34 +87,34 @@ module _ (n : ℕ) (hn : n ≤ 64) where
       (record {
         sound = new-law;
         kernel = λ i j hi hj. (
-          (λ e. kernel-start 64 i j hi hj .0 (sym (new-root i hi) ∙ e ∙ new-root j hj)),
+          (λ e. kernel-start places i j hi hj .0 (sym (new-root i hi) ∙ e ∙ new-root j hj)),
           (λ c. new-root i hi
-              ∙ kernel-start 64 i j hi hj .1 c ∙ sym (new-root j hj)),
+              ∙ kernel-start places i j hi hj .1 c ∙ sym (new-root j hj)),
         );
       }) in
       record { sound = m .sound; kernel = kernel-same (λ i j. ⊎-elim (λ r. absurd r) (λ s. s)) (λ i j s. inr s) (m .kernel) }
 
 -- the roots of the 64 places after the pairs of the first n were joined
 pub record RootsTell (n : ℕ) (es : List (ℕ × ℕ)) (roots : List ℕ) : Type 0 where
-  pub count : length roots ≡ 64
+  pub count : length roots ≡ places
   -- a root is a place
-  pub low : (i : ℕ) → i < 64 → getD roots i 0 < 64
+  pub low : (i : ℕ) → i < places → getD roots i 0 < places
   -- two roots are equal exactly when a chain of joined pairs leads from the one place to the other
-  pub equal : (i j : ℕ) → i < 64 → j < 64 → (getD roots i 0 ≡ getD roots j 0) ↔ Chain (Joined n es) i j
+  pub equal : (i j : ℕ) → i < places → j < places → (getD roots i 0 ≡ getD roots j 0) ↔ Chain (Joined n es) i j
 
-pub roots-tell : (n : ℕ) → n ≤ 64 → (es : List (ℕ × ℕ)) → RootsTell n es (rootsOf n es)
+pub roots-tell : (n : ℕ) → n ≤ places → (es : List (ℕ × ℕ)) → RootsTell n es (rootsOf n es)
 unfolding rootsOf
 roots-tell n hn es =
     record {
-      count = table-length 64 root;
-      low = λ i hi. subst (λ (x : ℕ). x < 64) (sym (table-at 64 root 0 i hi)) (find-law (u .parent) (u .rank) (t .sound) i hi .low);
+      count = table-length places root;
+      low = λ i hi. subst (λ (x : ℕ). x < places) (sym (table-at places root 0 i hi)) (find-law (u .parent) (u .rank) (t .sound) i hi .low);
       equal = λ i j hi hj.
           let k = t .kernel i j hi hj in
           ((λ e. k .0 (sym (is i hi) ∙ e ∙ is j hj)), (λ c. is i hi ∙ k .1 c ∙ sym (is j hj)));
     }
   where
     u : UnionFind
-    u = joinAll (min n 64) newOf es
+    u = joinAll (min n places) newOf es
 
     root : ℕ → ℕ
     root i = findOf (u .parent) i .root
@@ -122,5 +122,5 @@ roots-tell n hn es =
     t : Tells (Joined n es) u
     t = subst (λ (m : ℕ). Tells (Joined n es) (joinAll m newOf es)) (omega arith) (forest-tells n hn es)
 
-    is : (i : ℕ) → i < 64 → getD (table 64 root) i 0 ≡ rootOf (u .parent) i
-    is i hi = table-at 64 root 0 i hi ∙ find-law (u .parent) (u .rank) (t .sound) i hi .is-root
+    is : (i : ℕ) → i < places → getD (table places root) i 0 ≡ rootOf (u .parent) i
+    is i hi = table-at places root 0 i hi ∙ find-law (u .parent) (u .rank) (t .sound) i hi .is-root

@@ -13,7 +13,7 @@ use lib.Pow.{pow-add}
 use borrow.Author.Tests.{eq-eqb, ne-eqb, lt-ltb, le-ltb}
 use Rattle.union_find.specs.declared.forest.UnionFind.{UnionFind}
 use Rattle.union_find.specs.Laws.Merging.{Merged}
-use Rattle.union_find.specs.Forest.{up, table, newOf, findOf, linkOf, unionOf}
+use Rattle.union_find.specs.Forest.{places, up, table, newOf, findOf, linkOf, unionOf}
 use Rattle.union_find.specs.Laws.WellFormed.{rootOf, top, root-is, root-eq, root-low, root-top, link-well, link-merges}
 use Rattle.union_find.specs.Inside.WellFormed.{WellFormed, Sound}
 use Rattle.union_find.specs.Laws.Find.{Finds, find-law}
@@ -47,20 +47,20 @@ module _ (u : UnionFind) (x y : ℕ) where
 -- v is u with the classes of a and b made one
 pub record Joins (u : UnionFind) (a b : ℕ) (v : UnionFind) : Type 0 where
   pub sound : Sound v
-  pub merges : Merged 64 (rootOf (u .parent)) (rootOf (v .parent)) a b
+  pub merges : Merged places (rootOf (u .parent)) (rootOf (v .parent)) a b
 
-module _ (u : UnionFind) (wf : Sound u) (x y a b : ℕ) (ha : a < 64) (hb : b < 64) (ea : rootOf (u .parent) a ≡ x) (eb : rootOf (u .parent) b ≡ y) where
+module _ (u : UnionFind) (wf : Sound u) (x y a b : ℕ) (ha : a < places) (hb : b < places) (ea : rootOf (u .parent) a ≡ x) (eb : rootOf (u .parent) b ≡ y) where
   abbrev p : List ℕ
   p = u .parent
 
   abbrev r : List ℕ
   r = u .rank
 
-  hx : x < 64
-  hx = subst (λ (k : ℕ). k < 64) ea (root-low p r wf ha (root-is p r wf a ha))
+  hx : x < places
+  hx = subst (λ (k : ℕ). k < places) ea (root-low p r wf ha (root-is p r wf a ha))
 
-  hy : y < 64
-  hy = subst (λ (k : ℕ). k < 64) eb (root-low p r wf hb (root-is p r wf b hb))
+  hy : y < places
+  hy = subst (λ (k : ℕ). k < places) eb (root-low p r wf hb (root-is p r wf b hb))
 
   tx : up p x ≡ x
   tx = subst (λ (k : ℕ). up p k ≡ k) ea (root-top (root-is p r wf a ha))
@@ -90,7 +90,7 @@ module _ (u : UnionFind) (wf : Sound u) (x y a b : ℕ) (ha : a < 64) (hb : b < 
       r′ = set r x (getD r x 0 + 1)
 
       now-x : getD r′ x 0 ≡ getD r x 0 + 1
-      now-x = getD-set-same r x (getD r x 0 + 1) 0 (let e : length r ≡ 64 = wf .rlen in omega (arith, hx))
+      now-x = getD-set-same r x (getD r x 0 + 1) 0 (let e : length r ≡ places = wf .rlen in omega (arith, hx))
 
       light : 2 ^ getD r′ x 0 ≤ 2 ^ getD r y 0 + 2 ^ getD r x 0
       light =
@@ -114,7 +114,7 @@ module _ (u : UnionFind) (wf : Sound u) (x y a b : ℕ) (ha : a < 64) (hb : b < 
       (λ g. let e : getD r x 0 ≡ getD r y 0 = omega arith in subst (Joins u a b) (sym (link-equal u x y n e)) (at-equal n e))))
 
 -- a union keeps the forest sound, and merges the classes of a and b and no others
-pub union-law : (u : UnionFind) → Sound u → (a b : ℕ) → a < 64 → b < 64 → Joins u a b (unionOf u a b)
+pub union-law : (u : UnionFind) → Sound u → (a b : ℕ) → a < places → b < places → Joins u a b (unionOf u a b)
 unfolding unionOf
 union-law u wf a b ha hb = record { sound = j .sound; merges = record { kept = kept′; met = j .merges .met; only = only′ } }
   where
@@ -136,7 +136,7 @@ union-law u wf a b ha hb = record { sound = j .sound; merges = record { kept = k
     g : ℕ → ℕ
     g = rootOf (unionOf u a b .parent)
 
-    same : (i : ℕ) → i < 64 → rootOf p₂ i ≡ f i
+    same : (i : ℕ) → i < places → rootOf p₂ i ≡ f i
     same i hi = fb .same i hi ∙ fa .same i hi
 
     x : ℕ
@@ -151,10 +151,10 @@ union-law u wf a b ha hb = record { sound = j .sound; merges = record { kept = k
     j : Joins w a b (linkOf w x y)
     j = link-law w (fb .well) x y a b ha hb (same a ha ∙ sym (fa .is-root)) (fb .same b hb ∙ sym (fb .is-root))
 
-    kept′ : (i k : ℕ) → i < 64 → k < 64 → f i ≡ f k → g i ≡ g k
+    kept′ : (i k : ℕ) → i < places → k < places → f i ≡ f k → g i ≡ g k
     kept′ i k hi hk e = j .merges .kept i k hi hk (same i hi ∙ e ∙ sym (same k hk))
 
-    only′ : (i k : ℕ) → i < 64 → k < 64 → g i ≡ g k → (f i ≡ f k) ⊎ (((f i ≡ f a) × (f b ≡ f k)) ⊎ ((f i ≡ f b) × (f a ≡ f k)))
+    only′ : (i k : ℕ) → i < places → k < places → g i ≡ g k → (f i ≡ f k) ⊎ (((f i ≡ f a) × (f b ≡ f k)) ⊎ ((f i ≡ f b) × (f a ≡ f k)))
     only′ i k hi hk e =
         ⊎-elim (λ s. inl (sym (same i hi) ∙ s ∙ same k hk))
         (λ t. inr (⊎-elim (λ s. inl (sym (same i hi) ∙ s .0 ∙ same a ha, sym (same b hb) ∙ s .1 ∙ same k hk))
@@ -177,14 +177,14 @@ pub new-law : Sound newOf
 unfolding newOf
 new-law =
     record {
-      plen = table-length 64 (λ i. i);
-      rlen = length-replicate {A = ℕ} 64 0;
-      low = λ i hi. subst (λ (k : ℕ). k < 64) (sym (table-at 64 (λ i. i) 0 i hi)) hi;
-      rise = λ i hi n. absurd (n (table-at 64 (λ i. i) 0 i hi));
-      cap = λ i hi. subst (λ (k : ℕ). k ≤ 6) (sym (getD-replicate 64 i 0 0 hi)) (omega arith);
+      plen = table-length places (λ i. i);
+      rlen = length-replicate {A = ℕ} places 0;
+      low = λ i hi. subst (λ (k : ℕ). k < places) (sym (table-at places (λ i. i) 0 i hi)) hi;
+      rise = λ i hi n. absurd (n (table-at places (λ i. i) 0 i hi));
+      cap = λ i hi. subst (λ (k : ℕ). k ≤ 6) (sym (getD-replicate places i 0 0 hi)) (omega arith);
       weight = lit≤ tt;
     }
 
-pub new-root : (i : ℕ) → i < 64 → rootOf (newOf .parent) i ≡ i
+pub new-root : (i : ℕ) → i < places → rootOf (newOf .parent) i ≡ i
 unfolding newOf
-new-root i hi = root-eq (newOf .parent) (newOf .rank) new-law hi (top (table-at 64 (λ i. i) 0 i hi))
+new-root i hi = root-eq (newOf .parent) (newOf .rank) new-law hi (top (table-at places (λ i. i) 0 i hi))

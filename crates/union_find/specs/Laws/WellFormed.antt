@@ -16,7 +16,7 @@ use Rattle.union_find.specs.declared.forest.UnionFind.{UnionFind}
 use Rattle.union_find.specs.Laws.Sum.{sum, sum-agree, sum-has, sum-two}
 use Rattle.union_find.specs.Inside.WellFormed.{weigh, WellFormed}
 use Rattle.union_find.specs.Laws.Merging.{Merged, redirected}
-use Rattle.union_find.specs.Forest.{up, halve}
+use Rattle.union_find.specs.Forest.{places, up, halve}
 
 -- climbing k times
 abbrev pub climb : ℕ → List ℕ → ℕ → ℕ
@@ -50,7 +50,7 @@ climb-root p x zero e = refl
 climb-root p x (suc k) e = ap (climb k p) e ∙ climb-root p x k e
 
 module _ (p r : List ℕ) (wf : WellFormed p r) where
-  climbs : (k x : ℕ) → x < 64 → 6 ≤ k + getD r x 0 → Root p x (climb k p x)
+  climbs : (k x : ℕ) → x < places → 6 ≤ k + getD r x 0 → Root p x (climb k p x)
   climbs zero x hx hk = go (ℕ-discrete (up p x) x)
     where
       go : Dec (up p x ≡ x) → Root p x x
@@ -61,33 +61,33 @@ module _ (p r : List ℕ) (wf : WellFormed p r) where
       by-cases (ℕ-discrete (up p x) x) (λ e. subst (Root p x) (sym (climb-root p x (suc k) e)) (top e))
       (λ e. via (climbs k (up p x) (wf .low x hx) (let a : getD r x 0 < getD r (up p x) 0 = wf .rise x hx e in omega arith)))
 
-  pub root-is : (x : ℕ) → x < 64 → Root p x (rootOf p x)
+  pub root-is : (x : ℕ) → x < places → Root p x (rootOf p x)
   unfolding rootOf
   root-is x hx = climbs 6 x hx (omega arith)
 
-  pub root-eq : {x y : ℕ} → x < 64 → Root p x y → rootOf p x ≡ y
+  pub root-eq : {x y : ℕ} → x < places → Root p x y → rootOf p x ≡ y
   root-eq {x} hx d = root-one (root-is x hx) d
 
-  pub root-low : {x y : ℕ} → x < 64 → Root p x y → y < 64
+  pub root-low : {x y : ℕ} → x < places → Root p x y → y < places
   root-low hx (top e) = hx
   root-low {x} hx (via d) = root-low (wf .low x hx) d
 
   -- a grandparent's rank is above the place's own
-  pub grand-rank : (x : ℕ) → x < 64 → up p x ≢ x → getD r x 0 < getD r (up p (up p x)) 0
+  pub grand-rank : (x : ℕ) → x < places → up p x ≢ x → getD r x 0 < getD r (up p (up p x)) 0
   grand-rank x hx e =
       by-cases (ℕ-discrete (up p (up p x)) (up p x))
       (λ q. subst (λ (k : ℕ). getD r x 0 < getD r k 0) (sym q) (wf .rise x hx e))
       (λ q. let a : getD r x 0 < getD r (up p x) 0 = wf .rise x hx e in let b : getD r (up p x) 0 < getD r (up p (up p x)) 0 = wf .rise (up p x)
       (wf .low x hx) q in omega arith)
 
-  pub grand-ne : (x : ℕ) → x < 64 → up p x ≢ x → up p (up p x) ≢ x
+  pub grand-ne : (x : ℕ) → x < places → up p x ≢ x → up p (up p x) ≢ x
   grand-ne x hx e q =
       let a : getD r x 0 < getD r (up p (up p x)) 0 = grand-rank x hx e in
       let b : getD r (up p (up p x)) 0 ≡ getD r x 0 = ap (λ (k : ℕ). getD r k 0) q in omega arith
 
-module _ (p r : List ℕ) (wf : WellFormed p r) (x : ℕ) (hx : x < 64) (nx : up p x ≢ x) where
+module _ (p r : List ℕ) (wf : WellFormed p r) (x : ℕ) (hx : x < places) (nx : up p x ≢ x) where
   at-x : up (halve p x) x ≡ up p (up p x)
-  at-x = getD-set-same p x (up p (up p x)) 0 (let e : length p ≡ 64 = wf .plen in omega arith)
+  at-x = getD-set-same p x (up p (up p x)) 0 (let e : length p ≡ places = wf .plen in omega arith)
 
   at-other : (i : ℕ) → i ≢ x → up (halve p x) i ≡ up p i
   at-other i e = getD-set-other p x i (up p (up p x)) 0 e
@@ -106,7 +106,7 @@ module _ (p r : List ℕ) (wf : WellFormed p r) (x : ℕ) (hx : x < 64) (nx : up
           elim′ (top {x = z} e) q = subst (λ (k : ℕ). Root (halve p x) k z) (sym e ∙ q) (top e)
           elim′ (via {y = y} d) q = subst (λ (k : ℕ). Root (halve p x) k y) q d
 
-  weigh-kept : (i : ℕ) → i < 64 → weigh p r i ≡ weigh (halve p x) r i
+  weigh-kept : (i : ℕ) → i < places → weigh p r i ≡ weigh (halve p x) r i
   weigh-kept i hi =
       by-cases (ℕ-discrete i x)
       (λ q. subst (λ (k : ℕ). weigh p r k ≡ weigh (halve p x) r k) (sym q)
@@ -119,26 +119,26 @@ module _ (p r : List ℕ) (wf : WellFormed p r) (x : ℕ) (hx : x < 64) (nx : up
         plen = length-set p x (up p (up p x)) ∙ wf .plen;
         rlen = wf .rlen;
         low = λ i hi. by-cases (ℕ-discrete i x)
-            (λ q. subst (λ (k : ℕ). up (halve p x) k < 64) (sym q) (subst (λ (k : ℕ). k < 64) (sym at-x) (wf .low (up p x) (wf .low x hx))))
-            (λ q. subst (λ (k : ℕ). k < 64) (sym (at-other i q)) (wf .low i hi));
+            (λ q. subst (λ (k : ℕ). up (halve p x) k < places) (sym q) (subst (λ (k : ℕ). k < places) (sym at-x) (wf .low (up p x) (wf .low x hx))))
+            (λ q. subst (λ (k : ℕ). k < places) (sym (at-other i q)) (wf .low i hi));
         rise = λ i hi. by-cases (ℕ-discrete i x)
             (λ q. subst (λ (k : ℕ). up (halve p x) k ≢ k → getD r k 0 < getD r (up (halve p x) k) 0) (sym q)
             (λ e. subst (λ (k : ℕ). getD r x 0 < getD r k 0) (sym at-x) (grand-rank p r wf x hx nx)))
             (λ q. subst (λ (k : ℕ). k ≢ i → getD r i 0 < getD r k 0) (sym (at-other i q)) (wf .rise i hi));
         cap = wf .cap;
-        weight = subst (λ (k : ℕ). k ≤ 64) (sum-agree 64 (weigh p r) (weigh (halve p x) r) weigh-kept) (wf .weight);
+        weight = subst (λ (k : ℕ). k ≤ places) (sum-agree places (weigh p r) (weigh (halve p x) r) weigh-kept) (wf .weight);
       }
 
   -- halving keeps every root
-  pub halve-keeps : (i : ℕ) → i < 64 → rootOf (halve p x) i ≡ rootOf p i
+  pub halve-keeps : (i : ℕ) → i < places → rootOf (halve p x) i ≡ rootOf p i
   halve-keeps i hi = root-eq (halve p x) r halve-well hi (halve-root (root-is p r wf i hi))
 
-pow-cap : (k : ℕ) → 2 ^ k ≤ 64 → k ≤ 6
+pow-cap : (k : ℕ) → 2 ^ k ≤ places → k ≤ 6
 pow-cap k h = by-cases (decLe k 6) (λ q. q) (λ q. absurd (let l : 7 ≤ k = omega arith in let a : 2 ^ 7 ≤ 2 ^ k = pow-mono l in omega arith))
 
-module _ (p r : List ℕ) (wf : WellFormed p r) (x y : ℕ) (hx : x < 64) (hy : y < 64) (tx : up p x ≡ x) (ty : up p y ≡ y) (xy : x ≢ y) where
+module _ (p r : List ℕ) (wf : WellFormed p r) (x y : ℕ) (hx : x < places) (hy : y < places) (tx : up p x ≡ x) (ty : up p y ≡ y) (xy : x ≢ y) where
   link-x : up (set p x y) x ≡ y
-  link-x = getD-set-same p x y 0 (let e : length p ≡ 64 = wf .plen in omega arith)
+  link-x = getD-set-same p x y 0 (let e : length p ≡ places = wf .plen in omega arith)
 
   link-other : (i : ℕ) → i ≢ x → up (set p x y) i ≡ up p i
   link-other i e = getD-set-other p x i y 0 e
@@ -165,16 +165,16 @@ module _ (p r : List ℕ) (wf : WellFormed p r) (x y : ℕ) (hx : x < 64) (hy : 
       (λ e. via (subst (λ (k : ℕ). Root (set p x y) k z) (sym (link-other i e)) (link-away d q)))
 
   module _ (r′ : List ℕ) (wf′ : WellFormed (set p x y) r′) where
-    link-root-over : (i : ℕ) → i < 64 → rootOf p i ≡ x → rootOf (set p x y) i ≡ y
+    link-root-over : (i : ℕ) → i < places → rootOf p i ≡ x → rootOf (set p x y) i ≡ y
     link-root-over i hi e = root-eq (set p x y) r′ wf′ hi (link-over (subst (Root p i) e (root-is p r wf i hi)))
 
-    link-root-away : (i : ℕ) → i < 64 → rootOf p i ≢ x → rootOf (set p x y) i ≡ rootOf p i
+    link-root-away : (i : ℕ) → i < places → rootOf p i ≢ x → rootOf (set p x y) i ≡ rootOf p i
     link-root-away i hi e = root-eq (set p x y) r′ wf′ hi (link-away (root-is p r wf i hi) e)
 
     -- linking the roots of a and b, either way round
     pub link-merges :
-        (a b : ℕ) → a < 64 → b < 64 → ((rootOf p a ≡ x) × (rootOf p b ≡ y)) ⊎ ((rootOf p a ≡ y) × (rootOf p b ≡ x)) →
-        Merged 64 (rootOf p) (rootOf (set p x y)) a b
+        (a b : ℕ) → a < places → b < places → ((rootOf p a ≡ x) × (rootOf p b ≡ y)) ⊎ ((rootOf p a ≡ y) × (rootOf p b ≡ x)) →
+        Merged places (rootOf p) (rootOf (set p x y)) a b
     link-merges a b ha hb ab = redirected x y ha hb link-root-over link-root-away ab
 
   -- the weights after linking, by where the ranks may differ: at y alone
@@ -185,30 +185,30 @@ module _ (p r : List ℕ) (wf : WellFormed p r) (x y : ℕ) (hx : x < 64) (hy : 
     weigh-y : weigh (set p x y) r′ y ≡ 2 ^ getD r′ y 0
     weigh-y = ap (λ (t : Bool). cond t (2 ^ getD r′ y 0) 0) (eq-eqb (up (set p x y) y) y link-y)
 
-    weigh-other : (i : ℕ) → i < 64 → i ≢ x → i ≢ y → weigh p r i ≡ weigh (set p x y) r′ i
+    weigh-other : (i : ℕ) → i < places → i ≢ x → i ≢ y → weigh p r i ≡ weigh (set p x y) r′ i
     weigh-other i hi ix iy = ap₂ (λ (k m : ℕ). cond (eqb k i) (2 ^ m) 0) (sym (link-other i ix)) (sym (other i iy))
 
-    weighs : sum 64 (weigh p r) + 2 ^ getD r′ y 0 ≡ sum 64 (weigh (set p x y) r′) + (2 ^ getD r x 0 + 2 ^ getD r y 0)
+    weighs : sum places (weigh p r) + 2 ^ getD r′ y 0 ≡ sum places (weigh (set p x y) r′) + (2 ^ getD r x 0 + 2 ^ getD r y 0)
     weighs =
-        let q : sum 64 (weigh p r) + (weigh (set p x y) r′ x + weigh (set p x y) r′ y) ≡ sum 64 (weigh (set p x y) r′) + (weigh p r x + weigh p r y) =
-        sum-two 64 (weigh p r) (weigh (set p x y) r′) x y hx hy xy weigh-other in
+        let q : sum places (weigh p r) + (weigh (set p x y) r′ x + weigh (set p x y) r′ y) ≡ sum places (weigh (set p x y) r′) + (weigh p r x + weigh p r y) =
+        sum-two places (weigh p r) (weigh (set p x y) r′) x y hx hy xy weigh-other in
         let qx : weigh p r x ≡ 2 ^ getD r x 0 = ap (λ (t : Bool). cond t (2 ^ getD r x 0) 0) (eq-eqb (up p x) x tx) in
         let qy : weigh p r y ≡ 2 ^ getD r y 0 = ap (λ (t : Bool). cond t (2 ^ getD r y 0) 0) (eq-eqb (up p y) y ty) in
         let q1 : weigh (set p x y) r′ x ≡ 0 = weigh-x in
         let q2 : weigh (set p x y) r′ y ≡ 2 ^ getD r′ y 0 = weigh-y in
-        subst₂ (λ (m k : ℕ). sum 64 (weigh p r) + m ≡ sum 64 (weigh (set p x y) r′) + k) (ap₂ _+_ weigh-x weigh-y ∙ zero-add _) (ap₂ _+_ qx qy) q
+        subst₂ (λ (m k : ℕ). sum places (weigh p r) + m ≡ sum places (weigh (set p x y) r′) + k) (ap₂ _+_ weigh-x weigh-y ∙ zero-add _) (ap₂ _+_ qx qy) q
 
     -- a rank of y that is above x's, not below its own, and no heavier than both
     pub link-well :
-        length r′ ≡ 64 → getD r x 0 < getD r′ y 0 → getD r y 0 ≤ getD r′ y 0 → 2 ^ getD r′ y 0 ≤ 2 ^ getD r x 0 + 2 ^ getD r y 0 →
+        length r′ ≡ places → getD r x 0 < getD r′ y 0 → getD r y 0 ≤ getD r′ y 0 → 2 ^ getD r′ y 0 ≤ 2 ^ getD r x 0 + 2 ^ getD r y 0 →
         WellFormed (set p x y) r′
     link-well len above grown light =
         record {
           plen = length-set p x y ∙ wf .plen;
           rlen = len;
           low = λ i hi. by-cases (ℕ-discrete i x)
-              (λ q. subst (λ (k : ℕ). k < 64) (sym (ap (up (set p x y)) q ∙ link-x)) hy)
-              (λ q. subst (λ (k : ℕ). k < 64) (sym (link-other i q)) (wf .low i hi));
+              (λ q. subst (λ (k : ℕ). k < places) (sym (ap (up (set p x y)) q ∙ link-x)) hy)
+              (λ q. subst (λ (k : ℕ). k < places) (sym (link-other i q)) (wf .low i hi));
           rise = λ i hi n. by-cases (ℕ-discrete i x)
               (λ q. subst₂ (λ (k m : ℕ). k < getD r′ m 0) (sym (other x xy) ∙ ap (λ (k : ℕ). getD r′ k 0) (sym q)) (sym (ap (up (set p x y)) q ∙ link-x)) above)
               (λ q.
@@ -227,16 +227,16 @@ module _ (p r : List ℕ) (wf : WellFormed p r) (x y : ℕ) (hx : x < 64) (hy : 
         not-less : (i : ℕ) → getD r i 0 ≤ getD r′ i 0
         not-less i = by-cases (ℕ-discrete i y) (λ q. subst (λ (k : ℕ). getD r k 0 ≤ getD r′ k 0) (sym q) grown) (λ q. le-of-eq (sym (other i q)))
 
-        lighter : sum 64 (weigh (set p x y) r′) ≤ 64
+        lighter : sum places (weigh (set p x y) r′) ≤ places
         lighter =
-            let q : sum 64 (weigh p r) + 2 ^ getD r′ y 0 ≡ sum 64 (weigh (set p x y) r′) + (2 ^ getD r x 0 + 2 ^ getD r y 0) = weighs in
-            let w : sum 64 (weigh p r) ≤ 64 = wf .weight in
-            linear (sum 64 (weigh p r)) (sum 64 (weigh (set p x y) r′)) (2 ^ getD r′ y 0) (2 ^ getD r x 0 + 2 ^ getD r y 0) q w light
+            let q : sum places (weigh p r) + 2 ^ getD r′ y 0 ≡ sum places (weigh (set p x y) r′) + (2 ^ getD r x 0 + 2 ^ getD r y 0) = weighs in
+            let w : sum places (weigh p r) ≤ places = wf .weight in
+            linear (sum places (weigh p r)) (sum places (weigh (set p x y) r′)) (2 ^ getD r′ y 0) (2 ^ getD r x 0 + 2 ^ getD r y 0) q w light
           where
-            linear : (a b c d : ℕ) → a + c ≡ b + d → a ≤ 64 → c ≤ d → b ≤ 64
+            linear : (a b c d : ℕ) → a + c ≡ b + d → a ≤ places → c ≤ d → b ≤ places
             linear a b c d q w l = omega arith
 
         cap-y : getD r′ y 0 ≤ 6
         cap-y =
             pow-cap (getD r′ y 0)
-            (le-trans (subst (λ (k : ℕ). k ≤ sum 64 (weigh (set p x y) r′)) weigh-y (sum-has 64 (weigh (set p x y) r′) y hy)) lighter)
+            (le-trans (subst (λ (k : ℕ). k ≤ sum places (weigh (set p x y) r′)) weigh-y (sum-has places (weigh (set p x y) r′) y hy)) lighter)

@@ -11,6 +11,7 @@ use Rattle.lists.specs.Rest.{rest}
 use Rattle.model.specs.declared.link.Link.{Link}
 use Rattle.model.specs.DbInsert.{fadedLink}
 use Rattle.model.specs.DbCluster.{ofLink}
+use Rattle.model.specs.Limits.{linksMost}
 use Rattle.db_link.proofs.Searches.{link-here, link-next, link-end}
 use Rattle.db_link.proofs.between.density.Statement.{statement}
 use Rattle.db_link.proofs.between.density.Tie as tie
@@ -20,7 +21,7 @@ over lambda t mean l = fadedLink lambda t l ⊘ mean
 
 abbrev Inv-loop : tie.InvT-loop
 Inv-loop count mean lambda t links n key i₀ i =
-    (i ≤ n) × (n ≤ 2016) × (ofLink (over lambda t mean) key (rest n i links) ≡ ofLink (over lambda t mean) key (take count links))
+    (i ≤ n) × (n ≤ linksMost) × (ofLink (over lambda t mean) key (rest n i links) ≡ ofLink (over lambda t mean) key (take count links))
 
 abbrev μ-loop : tie.MeasureT-loop
 μ-loop count mean lambda t links n key i₀ i = n - i
@@ -37,7 +38,7 @@ loop-holds c =
       search needs,
       omega (arith, c .before .cut .ensures),
       ap (ofLink (over (a .lambda) (a .t) (a .mean)) (c .«key-of» .result))
-          (cut-start (c .before .cut .result) (a .count) 2016 (a .t1) (c .before .cut .ensures) (omega arith)),
+          (cut-start (c .before .cut .result) (a .count) linksMost (a .t1) (c .before .cut .ensures) (omega arith)),
     )
 
 mul-l : tie.Need-mul-l Inv-loop μ-loop

@@ -8,13 +8,14 @@ use lib.ListN.{take}
 use Rattle.lists.specs.Laws.Rest.{cut-start}
 use Rattle.lists.specs.Rest.{rest}
 use Rattle.model.specs.declared.micro.MicroId.{MicroId}
+use Rattle.model.specs.Limits.{microsMost}
 use Rattle.db_link.specs.Among.{isAmong}
 use Rattle.db_link.proofs.Searches.{among-here, among-next, among-end}
 use Rattle.db_link.proofs.stay.is_among.Statement.{statement}
 use Rattle.db_link.proofs.stay.is_among.Tie as tie
 
 abbrev Inv-loop : tie.InvT-loop
-Inv-loop n id ids m i₀ i = (i ≤ m) × (m ≤ 64) × (isAmong (rest m i ids) id ≡ isAmong (take n ids) id)
+Inv-loop n id ids m i₀ i = (i ≤ m) × (m ≤ microsMost) × (isAmong (rest m i ids) id ≡ isAmong (take n ids) id)
 
 abbrev μ-loop : tie.MeasureT-loop
 μ-loop n id ids m i₀ i = m - i
@@ -28,7 +29,7 @@ loop-holds c =
       search needs,
       omega (arith, c .cut .ensures),
       ap (λ (l : List MicroId). isAmong l (a .id))
-          (cut-start (c .cut .result) (a .n) 64 (a .t1) (c .cut .ensures) (omega arith)),
+          (cut-start (c .cut .result) (a .n) microsMost (a .t1) (c .cut .ensures) (omega arith)),
     )
 
 mul-a : tie.Need-mul-a Inv-loop μ-loop

@@ -8,12 +8,13 @@ use borrow.Author.Needs.{needs}
 use lib.ListN.{length, take}
 use Rattle.lists.specs.Laws.Counted.{Kept, keep-starts, keep-takes, keep-drops, keep-ends, kept-length}
 use Rattle.model.specs.declared.link.Link.{Link}
+use Rattle.model.specs.Limits.{linksMost}
 use Rattle.db_link.specs.Among.{staysAmong}
 use Rattle.db_link.proofs.stay.retained.Statement.{statement}
 use Rattle.db_link.proofs.stay.retained.Tie as tie
 
 abbrev Inv-loop : tie.InvT-loop
-Inv-loop count ids n lambda floor t links₀ m i₀ j₀ links i j = Kept (staysAmong lambda floor t (take n ids)) 2016 count m links₀ links i j
+Inv-loop count ids n lambda floor t links₀ m i₀ j₀ links i j = Kept (staysAmong lambda floor t (take n ids)) linksMost count m links₀ links i j
 
 abbrev μ-loop : tie.MeasureT-loop
 μ-loop count ids n lambda floor t links₀ m i₀ j₀ links i j = m - i

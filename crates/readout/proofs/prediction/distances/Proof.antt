@@ -3,13 +3,14 @@ use Prim.Native.Nat.{_-_}
 use native.Mathlib.Omega.{arith}
 use lib.ListN.{take}
 use borrow.Author.Needs.{needs}
-use Rattle.readout.specs.Seen.{distanceIn}
+use Rattle.model.specs.Limits.{microsMost}
 use Rattle.lists.specs.Laws.Counted.{Gathered, gather-starts, gather-goes, gather-ends}
+use Rattle.readout.specs.Seen.{distanceIn}
 use Rattle.readout.proofs.prediction.distances.Statement.{statement}
 use Rattle.readout.proofs.prediction.distances.Tie as tie
 
 abbrev Inv-loop : tie.InvT-loop
-Inv-loop n x dim bodies k ds₀ i₀ ds i = Gathered (distanceIn dim (take dim x)) 64 n k bodies ds i
+Inv-loop n x dim bodies k ds₀ i₀ ds i = Gathered (distanceIn dim (take dim x)) microsMost n k bodies ds i
 
 abbrev μ-loop : tie.MeasureT-loop
 μ-loop n x dim bodies k ds₀ i₀ ds i = k - i

@@ -7,12 +7,13 @@ use Rattle.union_find.specs.Pairs.{pairsOf}
 use Rattle.union_find.proofs.Joining.{Seeking, seek-start, seek-next, seek-end}
 use Rattle.union_find.proofs.forest.roots.Statement.{statement}
 use Rattle.union_find.proofs.forest.roots.Tie as tie
+use Rattle.union_find.specs.Forest.{places}
 
 abbrev Inv-loop : tie.InvT-loop
 Inv-loop a b n parent₀ roots₀ i₀ parent roots i = Seeking parent₀ parent roots i
 
 abbrev μ-loop : tie.MeasureT-loop
-μ-loop a b n parent₀ roots₀ i₀ parent roots i = 64 - i
+μ-loop a b n parent₀ roots₀ i₀ parent roots i = places - i
 
 cut-requires : tie.Need-cut-requires Inv-loop μ-loop
 cut-requires c κs = search needs
@@ -51,7 +52,7 @@ returns c =
     let a = c .before .before .before .before .before .before .before .args in
     let l = c .before .loop in
     let u = c .before .before .before .joined .result in
-    let e : l .i ≡ 64 = omega arith in
+    let e : l .i ≡ places = omega arith in
     seek-end (a .n) (c .before .before .before .before .cut .result) (c .before .before .before .before .cut .ensures)
     (pairsOf (a .a .now) (a .b .now)) u (c .before .before .before .joined .ensures) (l .parent) (l .roots)
     (subst (Seeking (u .parent) (l .parent) (l .roots)) e (l .inv))

@@ -6,16 +6,16 @@ use native.Mathlib.Omega.{arith}
 use borrow.Author.Count.{below-more}
 use lib.ListN.{length, getD, length-set, replicate}
 use lib.Seq.{getD-set-same, getD-set-other, ext-getD}
-use Rattle.union_find.specs.Forest.{newOf, table}
+use Rattle.union_find.specs.Forest.{places, newOf, table}
 use Rattle.union_find.specs.Laws.Union.{table-length, table-at}
 use Rattle.union_find.proofs.forest.UnionFind.new.Statement.{statement}
 use Rattle.union_find.proofs.forest.UnionFind.new.Tie as tie
 
 abbrev Inv-loop : tie.InvT-loop
-Inv-loop parent₀ i₀ parent i = (length parent ≡ 64) × (i ≤ 64) × ((k : ℕ) → k < i → getD parent k 0 ≡ k)
+Inv-loop parent₀ i₀ parent i = (length parent ≡ places) × (i ≤ places) × ((k : ℕ) → k < i → getD parent k 0 ≡ k)
 
 abbrev μ-loop : tie.MeasureT-loop
-μ-loop parent₀ i₀ parent i = 64 - i
+μ-loop parent₀ i₀ parent i = places - i
 
 loop-holds : tie.Need-loop-holds Inv-loop μ-loop
 loop-holds c = (refl, omega arith, λ k h. omega arith)
@@ -48,9 +48,9 @@ unfolding newOf
 returns c =
     let v = c .before .loop .inv in
     let e =
-    ext-getD 0 (c .before .loop .parent) (table 64 (λ (i : ℕ). i)) (v .0 ∙ sym (table-length 64 (λ i. i)))
-    (λ k h. v .2 k (omega arith) ∙ sym (table-at 64 (λ i. i) 0 k (omega arith))) in
-    ap (λ (p : List ℕ). record { parent = p; rank = replicate 64 0 }) e
+    ext-getD 0 (c .before .loop .parent) (table places (λ (i : ℕ). i)) (v .0 ∙ sym (table-length places (λ i. i)))
+    (λ k h. v .2 k (omega arith) ∙ sym (table-at places (λ i. i) 0 k (omega arith))) in
+    ap (λ (p : List ℕ). record { parent = p; rank = replicate places 0 }) e
 
 pub new-spec : {M : Type 1} → statement M
 new-spec =
