@@ -1,3 +1,4 @@
+-- What the proofs of `src/` cite, on plain lists and numbers.
 pub mod Classes
 pub mod Gap
 pub mod Carries

@@ -19,7 +19,8 @@ nextClass c = min (c + 1) 255
 abbrev pub pairOf : Classed → Classed → Classed
 pairOf older newer = record { class = nextClass (newer .class); bucket = mergedOf (older .bucket) (newer .bucket) }
 
--- Document 01, Drift: "Over 6 in a class, the two oldest merge into the newest of the next." k newer buckets of y's class are passed; `older` lie before y, newest first.
+-- Document 01, Drift: "Over 6 in a class, the two oldest merge into the newest of the next."
+-- k newer buckets of y's class are passed; `older` lie before y, newest first.
 unfoldable pub carry : ℕ → Classed → List Classed → List Classed
 carry k y [] = y ∷ []
 carry k y (x ∷ older) =

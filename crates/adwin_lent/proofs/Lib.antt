@@ -1,1 +1,2 @@
+-- What the hand-made walks of the code cite.
 pub mod Clauses

@@ -1,2 +1,3 @@
+-- What the proofs of `src/` cite, on plain lists and numbers.
 pub mod Passes
 pub mod Walks

@@ -26,14 +26,24 @@ placeOf s = min (cond (s .carries) (s .at) (s .walk .p)) (linksMost - 1)
 abbrev pub carriedOf : Pass → Link → Turn
 carriedOf s l =
     cond (ltb (s .at) (min (s .count) linksMost))
-    (record { link = s .carry; gained = false; pass = record { walk = s .walk; count = s .count; carries = s .carries; carry = l; at = s .at + 1; factor = s .factor } })
+    (record {
+      link = s .carry;
+      gained = false;
+      pass = record {
+        walk = s .walk;
+        count = s .count;
+        carries = s .carries;
+        carry = l;
+        at = s .at + 1;
+        factor = s .factor;
+      };
+    })
     (record {
       link = s .carry;
       gained = true;
       pass = record {
         walk = s .walk;
-        count = min
-            (s .count) linksMost + 1;
+        count = min (s .count) linksMost + 1;
         carries = false;
         carry = s .carry;
         at = s .at;
@@ -47,7 +57,14 @@ passedOf s l =
     record {
       link = l;
       gained = false;
-      pass = record { walk = record { i = s .walk .i; j = s .walk .j; p = s .walk .p + 1; key = s .walk .key }; count = s .count; carries = s .carries; carry = s .carry; at = s .at; factor = s .factor };
+      pass = record {
+        walk = record { i = s .walk .i; j = s .walk .j; p = s .walk .p + 1; key = s .walk .key };
+        count = s .count;
+        carries = s .carries;
+        carry = s .carry;
+        at = s .at;
+        factor = s .factor;
+      };
     }
 
 -- the key has no link: one that gained from 0 is carried to the place, if there is room
@@ -61,8 +78,7 @@ insertedOf lambda t s l =
         walk = s .walk;
         count = s .count;
         carries = true;
-        carry = gains lambda t
-            (s .walk .key);
+        carry = gains lambda t (s .walk .key);
         at = s .walk .p;
         factor = s .factor;
       };

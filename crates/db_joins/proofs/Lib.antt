@@ -1,2 +1,3 @@
+-- What the proofs of `src/` cite, on plain lists.
 pub mod Pairing
 pub mod Labelling

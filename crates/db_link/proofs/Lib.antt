@@ -1,1 +1,2 @@
+-- The loops that search a list.
 pub mod Searches

@@ -1,3 +1,4 @@
+-- Links: their order, which of them stay, how they are listed, and the density between two micro-clusters.
 pub mod Order
 pub mod Among
 pub mod Listed

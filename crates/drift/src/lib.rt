@@ -2,7 +2,6 @@
 ghost use mathlib.Core.Path.{_≡_};
 ghost use Rattle.drift.specs.Monitor.{newOf, observeOf, reportOf, view};
 use adwin::Adwin;
-use adwin::Updated;
 
 // The squared distance to the nearest micro-cluster, where there is one.
 pub enum Nearest {

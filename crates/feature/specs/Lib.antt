@@ -1,3 +1,4 @@
+-- Features of clusters: distance, fading, the push of a point, and their laws.
 pub mod Distance
 pub mod Fade
 pub mod Feature

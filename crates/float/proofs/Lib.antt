@@ -1,3 +1,4 @@
+-- What the proofs of `src/` cite, on plain numbers.
 pub mod Tests
 pub mod Steps
 pub mod PowerBits

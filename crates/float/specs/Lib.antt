@@ -1,3 +1,4 @@
+-- Doubles as exact numbers: rounding, order, cutting, powers of two, ln, ceil, and their laws.
 pub mod Rounded
 pub mod Order
 pub mod Cut

@@ -27,7 +27,8 @@ minusPower c = fin false 1 (negℤ (pos c))
 abbrev pub least : Float
 least = neg (whole 1022)
 
--- "y not below 0 gives 1. Let k be y cut towards zero; k below −1022 gives 0. z = (y − k) × L .. Start h at 1; for n from 20 down to 1 .. The answer is h × 2^k."
+-- "y not below 0 gives 1. Let k be y cut towards zero; k below −1022 gives 0.
+-- z = (y − k) × L .. Start h at 1; for n from 20 down to 1 .. The answer is h × 2^k."
 unfoldable pub twoTo : Float → Float
 twoTo y =
     cond (lt y nought)

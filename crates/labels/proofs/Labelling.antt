@@ -50,7 +50,14 @@ pub record Labelling (mask : List Bool) (roots : List ℕ) (end : ℕ) (labels :
 pub labels-start : (mask : List Bool) (roots : List ℕ) (end : ℕ) → Labelling mask roots end (replicate places (negsuc 0)) (replicate places 0) 0 0
 unfolding labelsOf
 labels-start mask roots end =
-    record { size = length-replicate places (negsuc 0); room = length-replicate {A = ℕ} places 0; few = omega arith; within = omega arith; made = refl; rest = refl }
+    record {
+      size = length-replicate places (negsuc 0);
+      room = length-replicate {A = ℕ} places 0;
+      few = omega arith;
+      within = omega arith;
+      made = refl;
+      rest = refl;
+    }
 
 module _ (mask : List Bool) (roots : List ℕ) (end : ℕ) (labels : List ℤ) (met : List ℕ) (count i : ℕ) (l : Labelling mask roots end labels met count i)
     (h : i < end) (he : end ≤ places) (lm : length mask ≡ places) (lr : length roots ≡ places) where

@@ -22,7 +22,9 @@ use Rattle.labels.specs.Laws.Group.{sum-step, sum-none}
 pub record Summing (roots : List ℕ) (weights : List Float) (end : ℕ) (sums : List Float) (i : ℕ) : Type 0 where
   pub size : length sums ≡ places
   pub within : i ≤ end
-  pub made : (v : ℕ) → v < places → sumFrom (getD sums v nan) v (drop i roots) (drop i (take end weights)) ≡ sumFrom (ofBits binary64 0) v roots (take end weights)
+  pub made :
+      (v : ℕ) → v < places →
+      sumFrom (getD sums v nan) v (drop i roots) (drop i (take end weights)) ≡ sumFrom (ofBits binary64 0) v roots (take end weights)
 
 pub sums-start : (roots : List ℕ) (weights : List Float) (end : ℕ) → Summing roots weights end (replicate places (ofBits binary64 0)) 0
 sums-start roots weights end =

@@ -1,2 +1,3 @@
+-- What the proofs of `src/` cite, on plain lists.
 mod Finding
 mod Joining

@@ -12,10 +12,10 @@ use borrow.Author.Tests.{lt-ltb, le-ltb, lt-leb, le-leb}
 use Rattle.float.specs.Rounded.{whole, Is}
 use Rattle.float.specs.Order.{isFinite}
 use Rattle.float.specs.Laws.Whole.{whole-is}
-use Rattle.adwin.specs.Settings.{cap, interval, limit, places}
+use Rattle.adwin.specs.Settings.{interval, limit, places}
 use Rattle.adwin.specs.Buckets.{Classed}
 use Rattle.adwin.specs.Window.{Window, Outcome, quiet, full, hasRoom, grown, shrunk, updateOf, isEmpty, newOf, widthOf}
-use Rattle.adwin.specs.History.{Told, runOf, finiteIn, droppedBy, droppedIn, valuesIn, Sized, countOf, Below, NeverRising}
+use Rattle.adwin.specs.History.{Told, runOf, finiteIn, droppedBy, valuesIn, Below}
 use Rattle.adwin.specs.Laws.Cases.{update-cases, not-finite, no-room, not-due, is-due}
 use Rattle.adwin.specs.Laws.Stacked.{at-most-cap, never-rises}
 use Rattle.adwin.specs.Laws.Merging.{class-low, small}

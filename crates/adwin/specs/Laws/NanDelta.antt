@@ -3,7 +3,7 @@ use mathlib.Core.Path.{_≡_, refl, ap, _∙_}
 use mathlib.Core.Bool.{Bool, true, false, cond, not, _||_}
 use mathlib.Core.List.{List, [], _∷_}
 use lib.Ieee.{Float, nan, inf, fin, binary64, ofBits, lt, le}
-use Rattle.float.specs.Rounded.{_⊕_, _⊖_, _⊗_, nought, one, two}
+use Rattle.float.specs.Rounded.{_⊕_, _⊖_, _⊗_, nought, two}
 use Rattle.float.specs.Ln.{lnOf}
 use Rattle.float.specs.Laws.Opened.{add-nan, mul-nan, div-nan}
 use Rattle.adwin_buckets.specs.declared.bucket.Bucket.{Bucket}

@@ -1,4 +1,5 @@
--- `updated` meets its contract: a walk of its code, by hand. The window in a local is lent to `update` for a lifetime that the walk makes, and comes back at the last value that the contract of `update` says.
+-- `updated` meets its contract: a walk of its code, by hand.
+-- The window in a local is lent to `update` for a lifetime that the walk makes, and comes back at the last value that the contract of `update` says.
 -- Assumes nothing.
 use mathlib.Core.Path.{_≡_, refl, subst}
 use mathlib.Core.Bool.{true}

@@ -160,8 +160,30 @@ module _ (lambda t : Float) (ids : List MicroId) (k : ℕ) (goal ls : List Link)
       abbrev climbed : (n m : ℕ) (b : Bool) → Turn
       climbed n m b =
           cond b
-          (record { link = s .carry; gained = false; pass = record { walk = s .walk; count = s .count; carries = s .carries; carry = getD ls m z; at = s .at + 1; factor = s .factor } })
-          (record { link = s .carry; gained = true; pass = record { walk = s .walk; count = n + 1; carries = false; carry = s .carry; at = s .at; factor = s .factor } })
+          (record {
+            link = s .carry;
+            gained = false;
+            pass = record {
+              walk = s .walk;
+              count = s .count;
+              carries = s .carries;
+              carry = getD ls m z;
+              at = s .at + 1;
+              factor = s .factor;
+            };
+          })
+          (record {
+            link = s .carry;
+            gained = true;
+            pass = record {
+              walk = s .walk;
+              count = n + 1;
+              carries = false;
+              carry = s .carry;
+              at = s .at;
+              factor = s .factor;
+            };
+          })
 
       climbs : (b : Bool) → ltb (s .at) (s .count) ≡ b → Goes (s .at) (climbed (s .count) (s .at) b)
       climbs true e =

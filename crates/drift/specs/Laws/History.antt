@@ -18,7 +18,7 @@ use Rattle.adwin.specs.Laws.History.{told-from-history}
 use Rattle.drift.specs.declared.Nearest.{Nearest}
 use Rattle.drift.specs.declared.Nearest.the-variants.{Nothing, Distance}
 use Rattle.drift.specs.declared.LastAlarm.{LastAlarm}
-use Rattle.drift.specs.declared.LastAlarm.the-variants.{Never, At}
+use Rattle.drift.specs.declared.LastAlarm.the-variants.{At}
 use Rattle.drift.specs.Monitor.{Monitor, newOf, observeOf, heard, delta}
 use Rattle.drift.specs.History.{Heard, Seen, watchOf, given, valuesSeen, answerTo, ringsIn, lastOf}
 

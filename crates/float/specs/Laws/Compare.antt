@@ -1,8 +1,8 @@
 -- Comparisons by the fractions that two values equal. Assumes nothing.
 use mathlib.Core.Path.{_≡_, refl, sym, ap}
-use Prim.Native.Nat.{ℕ, _*_, _/_, _≤_, _<_}
+use Prim.Native.Nat.{ℕ, _*_, _≤_, _<_}
 use native.Mathlib.Nat.{add-comm, lt-of-not-le, not-le-of-lt}
-use mathlib.Core.Bool.{Bool, true, false, not, true≢false}
+use mathlib.Core.Bool.{Bool, true, false, true≢false}
 use lib.Dec.{T, ltb, ltb→lt, lt→ltb, eqb, eqb-refl}
 use lib.Ieee.{Float, nan, inf, fin, up, down, lt, ne, neg, isNan}
 use lib.Ieee.Bits.{is-true}

@@ -2,7 +2,7 @@
 -- A finite value x is (P - Q) / den: `P` is its size where its sign is plus, and 0 otherwise, and `Q` the same for minus. So no law goes by the signs' cases.
 use mathlib.Core.Path.{_≡_, refl, sym, ap, _∙_, subst}
 use mathlib.Core.Logic.{_⊎_, inl, inr}
-use Prim.Native.Nat.{ℕ, zero, suc, _+_, _-_, _*_, _/_, _≤_, _<_}
+use Prim.Native.Nat.{ℕ, zero, suc, _+_, _-_, _*_, _≤_, _<_}
 use native.Mathlib.Nat.{eq-or-lt-of-le, mul-comm, mul-assoc, mul-left-comm, mul-right-comm, add-mul, mul-add, mul-le-mul-right}
 use native.Mathlib.Nat.{le-of-mul-le-mul-right, mul-pos, zero-mul}
 use native.Mathlib.Omega.{arith}

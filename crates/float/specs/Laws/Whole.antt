@@ -1,6 +1,7 @@
--- Whole numbers as doubles: `whole n` is n as a double. Up to 2 ^ 53 sums, differences, products, remainders and comparisons of them are those of the numbers. Assumes nothing.
+-- Whole numbers as doubles: `whole n` is n as a double.
+-- Up to 2 ^ 53 sums, differences, products, remainders and comparisons of them are those of the numbers. Assumes nothing.
 use mathlib.Core.Path.{_≡_, refl, sym, ap, _∙_, subst}
-use Prim.Native.Nat.{ℕ, zero, suc, _+_, _-_, _*_, _/_, _%_, _^_, _≤_, _<_}
+use Prim.Native.Nat.{ℕ, zero, suc, _+_, _-_, _*_, _%_, _^_, _≤_, _<_}
 use native.Mathlib.Nat.{le-trans, le-of-eq, le-of-lt, mul-one, mul-comm, mul-assoc, mul-mul-mul-comm, add-mul, mul-le-mul-right}
 use native.Mathlib.Nat.{mul-lt-mul-of-pos-right, lt-of-mul-lt-mul-right, eq-of-mul-eq-mul-right, mul-sub, mul-pos, mul-mod-left, mul-div-cancel}
 use native.Mathlib.Nat.{mod-lt, eq-or-lt-of-le}
@@ -10,7 +11,6 @@ use lib.IntN.{ℤ}
 use lib.Dec.{T, ltb, leb, eqb, eqb→eq, ltb→lt, lt→ltb, lit<, le→leb, leb→le, eqb-refl, eqb·suc-zero}
 use lib.Ieee.{Float, nan, inf, fin, Format, binary64, up, down, round, add, sub, mul, rem, lt, le, eq, ofInt, ofBits}
 use lib.Ieee.Fits.{down-pos, eq→eqb}
-use lib.Ieee.Exact.{HasValue}
 use lib.Ieee.Back.{round-whole}
 use lib.Ieee.Bits.{cond-no}
 use lib.Arith.{mod-mul}

@@ -6,7 +6,7 @@ use mathlib.Core.Path.{_≡_, refl, ap, _∙_}
 use mathlib.Core.List.{List, [], _∷_}
 use native.Mathlib.Numerals.{add-one}
 use native.Mathlib.Omega.{arith}
-use lib.ListN.{length, take, drop, getD, set, length-take, drop-of-length-le}
+use lib.ListN.{length, take, getD, set, length-take, drop-of-length-le}
 use Rattle.lists.specs.Rest.{rest}
 use lib.Seq.{drop-cons, getD-take, length-take-le, drop-set-lt}
 

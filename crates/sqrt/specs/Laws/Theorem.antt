@@ -1,4 +1,5 @@
--- `sqrtOf` in plain arithmetic: for x = m * 2 ^ (k - 1074), a positive number of binary64, its result is the number of 53 binary digits that is nearest to x's root. Assumes nothing.
+-- `sqrtOf` in plain arithmetic:
+-- for x = m * 2 ^ (k - 1074), a positive number of binary64, its result is the number of 53 binary digits that is nearest to x's root. Assumes nothing.
 use mathlib.Core.Path.{_≡_, refl, sym, ap, _∙_, subst}
 use Prim.Native.Nat.{ℕ, suc, _+_, _-_, _*_, _/_, _%_, _^_, _≤_, _<_}
 use native.Mathlib.Nat.{le-trans, le-of-eq, lt-of-lt-of-le, lt-of-le-of-lt, lt-of-not-le, le-of-suc-le-suc, mul-comm, mul-left-comm, mul-assoc}
@@ -12,7 +13,7 @@ use lib.Dec.{T, leb, ltb, eqb, leb→le, ltb→lt, lit<}
 use lib.Ieee.Fits.{and-l, and-r}
 use lib.Pow.{pow-add, pow-pos, pow-mono, pow-lt, shl-lt}
 use lib.Arith.{lt-of-le-ne}
-use lib.Ieee.{Float, fin, binary64, up, down, fits, size, units}
+use lib.Ieee.{Float, fin, binary64, up, down, fits, size}
 use lib.Ieee.Digits.{size-lt, size-le, size-reaches}
 use lib.Ieee.Exact.{HasValue}
 use Rattle.sqrt.specs.Root.{floorRoot, sqrtOf}

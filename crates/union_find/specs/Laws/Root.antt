@@ -43,16 +43,20 @@ module _ (n : ℕ) (hn : n ≤ places) where
   joins [] u R w t = record { sound = t .sound; kernel = kernel-same (λ i j r. inl r) (λ i j. ⊎-elim (λ r. r) (λ x. absurd (x .2))) (t .kernel) }
   joins (e ∷ es) u R w t =
       by-cases (decLt (e .0) n)
-      (λ ha. by-cases (decLt (e .1) n) (λ hb. into ha hb (joins es (unionOf u (e .0) (e .1)) (Also R (e .0) (e .1))))
+      (λ ha. by-cases (decLt (e .1) n) (λ hb. into ha hb (joins es (unionOf u (e .0) (e .1)) With))
       (λ hb. past (λ ga gb. hb gb) (joins es u R w t)))
       (λ ha. past (λ ga gb. ha ga) (joins es u R w t))
     where
+      -- R with the pair
+      With : ℕ → ℕ → Type 0
+      With = Also R (e .0) (e .1)
+
       After : UnionFind → Type 0
       After v = Tells (λ i j. R i j ⊎ Joined n (e ∷ es) i j) (joinAll n v es)
 
       into :
           e .0 < n → e .1 < n →
-          (Within places (Also R (e .0) (e .1)) → Tells (Also R (e .0) (e .1)) (unionOf u (e .0) (e .1)) → Tells (λ i j. Also R (e .0) (e .1) i j ⊎ Joined n es i j) (joinAll n (unionOf u (e .0) (e .1)) es)) →
+          (Within places With → Tells With (unionOf u (e .0) (e .1)) → Tells (λ i j. With i j ⊎ Joined n es i j) (joinAll n (unionOf u (e .0) (e .1)) es)) →
           After (joinOf n u e)
       into ha hb more =
           let ga : e .0 < places = omega arith in

@@ -1,4 +1,5 @@
--- `some_fails` meets its contract: a walk of its code, by hand. Each turn of the loop looks into the slice, copies the bucket at the search's place out of it, shuts it, and calls `past`.
+-- `some_fails` meets its contract: a walk of its code, by hand.
+-- Each turn of the loop looks into the slice, copies the bucket at the search's place out of it, shuts it, and calls `past`.
 -- The loop's variant is the search with the facts that the walk keeps of it, ordered by how many buckets are left. Assumes nothing.
 use mathlib.Core.Path.{_≡_, refl, sym, subst, ap, _∙_}
 use mathlib.Core.Bool.{Bool, true, false, not}
@@ -291,7 +292,8 @@ module _ {M : Type 1} (𝓤 : URA M) (H : Heap 𝓤) (A : Atoms 𝓤) (W : Given
       keep ! (3 ∷ 0 ∷ 1 ∷ []) $
       -- [the token; the fractured borrow; what the slice owns]
       enter ! (𝓣 .C) (𝓣 .Λ) code.function (tval c ∷ sliceVal (b, o) (length ys) ∷ vint w64 n ∷ []) _ $
-      alloc1 ! (λ l₀. alloc1 ! (λ l₁. alloc1 ! (λ l₂. alloc1 ! (λ l₃. alloc1 ! (λ l₄. alloc1 ! (λ l₅. alloc1 ! (λ l₆. alloc1 ! (λ l₇. alloc1 ! (λ l₈. alloc1 ! (λ l₉. alloc0 ! $ params1 ! $
+      alloc1 ! (λ l₀. alloc1 ! (λ l₁. alloc1 ! (λ l₂. alloc1 ! (λ l₃. alloc1 ! (λ l₄. alloc1 ! (λ l₅.
+      alloc1 ! (λ l₆. alloc1 ! (λ l₇. alloc1 ! (λ l₈. alloc1 ! (λ l₉. alloc0 ! $ params1 ! $
       pass1 ! (init ! 16 refl (LL.lawful T.the-type T′.the-laws 𝓤 H A W .typed c _ is-c .0)) $
       pass1 ! (init ! 14 refl (tt, (tt, (record { fits = gn .0 }, tt)))) $ pass1 ! (init ! 12 refl (tt, record { fits = ge })) $ pass0 ! $
       assigns ! (of-opd ! (load ! (from ! (fld ! refl (stop !))) (look-in ! 14 (sub ! 1 refl (whole !))))) (from ! (stop !))

@@ -1,4 +1,5 @@
--- `some_fails_in` meets its contract: a walk of its code, by hand. The array of buckets in a local is lent whole, as a slice, to `some_fails` for a lifetime that the walk makes, and comes back.
+-- `some_fails_in` meets its contract: a walk of its code, by hand.
+-- The array of buckets in a local is lent whole, as a slice, to `some_fails` for a lifetime that the walk makes, and comes back.
 -- Assumes nothing.
 use mathlib.Core.Path.{_≡_, refl, sym, subst}
 use mathlib.Core.Bool.{Bool}
@@ -123,8 +124,8 @@ module _ {M : Type 1} (𝓤 : URA M) (H : Heap 𝓤) (A : Atoms 𝓤) (mem : Mem
   some-of κ c xs n r =
       exE 𝓤 _ (λ ws. snd∗ 𝓤 (sem 𝓤 H A (lasts some′.ended (κ, tt) (c, (xs, (n, tt))) ws)) (fact 𝓤 (r ≡ someFails c nought nought (take n (xs .now)))))
 
-module _ {M : Type 1} (𝓤 : URA M) (H : Heap 𝓤) (A : Atoms 𝓤) (W : Given 𝓤 H A) (at-mem : Memory → SProp 𝓤) (run : Routine → Fun 𝓤) (c : CutTest) (ys : List Bucket) (n : ℕ)
-    (is-c : Is T.the-row c (tvals c)) (is : Is Rows ys (avals ys)) (gn : n < 2 ^ 64) where
+module _ {M : Type 1} (𝓤 : URA M) (H : Heap 𝓤) (A : Atoms 𝓤) (W : Given 𝓤 H A) (at-mem : Memory → SProp 𝓤) (run : Routine → Fun 𝓤)
+    (c : CutTest) (ys : List Bucket) (n : ℕ) (is-c : Is T.the-row c (tvals c)) (is : Is Rows ys (avals ys)) (gn : n < 2 ^ 64) where
   abbrev args : CutTest × (List Bucket × (ℕ × Unit {0}))
   args = (c, (ys, (n, tt)))
 

@@ -1,4 +1,5 @@
--- `find` meets its contract. The loop's invariant: where it stands is some halving steps from the start (`Turn`). The measure: the steps that are left. Assumes nothing.
+-- `find` meets its contract. The loop's invariant: where it stands is some halving steps from the start (`Turn`).
+-- The measure: the steps that are left. Assumes nothing.
 use mathlib.Core.Path.{sym, ap}
 use native.Mathlib.Omega.{arith}
 use borrow.Author.Needs.{needs}
