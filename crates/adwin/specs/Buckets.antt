@@ -7,6 +7,7 @@ use Rattle.adwin_buckets.specs.declared.bucket.Bucket.{Bucket}
 use Rattle.adwin_buckets.specs.Bucket.{mergedOf}
 use Rattle.adwin.specs.Settings.{cap}
 
+-- a bucket with its class: it stands for 2^class values
 pub record Classed : Type 0 where
   pub class : ℕ
   pub bucket : Bucket

@@ -42,6 +42,7 @@ varianceWithout width total variance gone =
     let gap = gone .total ⊘ gone .size ⊖ (total ⊖ gone .total) ⊘ rest in
     cond (lt nought rest) (larger (variance ⊖ (gone .variance ⊕ gone .size ⊗ rest ⊘ (gone .size ⊕ rest) ⊗ gap ⊗ gap)) nought) nought
 
+-- "drops the oldest": all three sums without a bucket
 abbrev pub sumsWithout : Sums → Bucket → Sums
 sumsWithout s gone =
     record { width = s .width ⊖ gone .size; total = s .total ⊖ gone .total; variance = varianceWithout (s .width) (s .total) (s .variance) gone }
@@ -52,12 +53,15 @@ pub record Searched : Type 0 where
   pub kept : List Classed
   pub sums : Sums
 
+-- a search that drops nothing
 abbrev pub allKept : Sums → List Classed → Searched
 allKept s held = record { dropped = []; kept = held; sums = s }
 
+-- a search that drops b too, before the others
 abbrev pub alsoDropped : Classed → Searched → Searched
 alsoDropped b r = record { dropped = b ∷ r .dropped; kept = r .kept; sums = r .sums }
 
+-- the buckets without their classes
 abbrev pub bucketsOf : List Classed → List Bucket
 bucketsOf held = map (λ (c : Classed). c .bucket) held
 

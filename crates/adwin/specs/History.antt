@@ -24,11 +24,12 @@ unfoldable pub finiteIn : List Float → ℕ
 finiteIn [] = 0
 finiteIn (x ∷ xs) = cond (isFinite x) 1 0 + finiteIn xs
 
--- the buckets that an update's cut search drops, and those that the searches of a list of updates drop
+-- the buckets that an update's cut search drops
 unfoldable pub droppedBy : Window → Float → List Classed
 unfolding grown searchOf
 droppedBy w x = cond (isFinite x && (hasRoom w && due w)) (searchOf (w .delta) (grown w x .sums) (grown w x .held) .dropped) []
 
+-- the buckets that the cut searches of a list of updates drop
 unfoldable pub droppedIn : Window → List Float → List Classed
 unfolding droppedBy updateOf
 droppedIn w [] = []
@@ -49,11 +50,12 @@ abbrev pub countOf : ℕ → List Classed → ℕ
 countOf c [] = 0
 countOf c (b ∷ l) = cond (eqb (b .class) c) 1 0 + countOf c l
 
--- no bucket has a higher class than an older one
+-- no bucket has a class above c
 abbrev pub Below : ℕ → List Classed → Type 0
 Below c [] = Unit {0}
 Below c (b ∷ l) = (b .class ≤ c) × Below c l
 
+-- no bucket has a higher class than any older one
 abbrev pub NeverRising : List Classed → Type 0
 NeverRising [] = Unit {0}
 NeverRising (b ∷ l) = Below (b .class) l × NeverRising l

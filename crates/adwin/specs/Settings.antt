@@ -2,12 +2,15 @@
 use Prim.Native.Nat.{ℕ}
 use lib.Ieee.{Float, binary64, ofBits}
 
+-- "The cap 6": the most buckets of one class
 abbrev pub cap : ℕ
 cap = 6
 
+-- "smallest side 5", as a double
 abbrev pub side : Float
 side = ofBits binary64 0x4014_0000_0000_0000
 
+-- "check interval 32"
 abbrev pub interval : ℕ
 interval = 32
 
@@ -23,5 +26,6 @@ places = 81
 abbrev pub least : Float
 least = ofBits binary64 0x0010_0000_0000_0000
 
+-- and its upper end, 1 − 2^−52
 abbrev pub most : Float
 most = ofBits binary64 0x3fef_ffff_ffff_fffe

@@ -12,6 +12,7 @@ use Rattle.adwin_buckets.specs.Bucket.{singleOf}
 use Rattle.adwin.specs.Buckets.{Classed, pushOf}
 use Rattle.adwin.specs.Cut.{Sums, Searched, searchOf}
 
+-- delta, the buckets oldest first, their sums, the values since the last cut search, and the values taken
 pub record Window : Type 0 where
   pub delta : Float
   pub held : List Classed
@@ -25,9 +26,11 @@ pub record Outcome : Type 0 where
   pub refusal : ℕ
   pub window : Window
 
+-- no alarm
 abbrev pub quiet : Window → Outcome
 quiet w = record { alarm = false; refusal = 0; window = w }
 
+-- "No: 8."
 abbrev pub full : Window → Outcome
 full w = record { alarm = false; refusal = 8; window = w }
 
@@ -46,6 +49,7 @@ varianceWith width total variance x =
     let dev = x ⊖ total ⊘ width in
     cond (lt nought width) (variance ⊕ width ⊗ dev ⊗ dev ⊘ (width ⊕ one)) variance
 
+-- all three sums with one value more
 abbrev pub joined : Sums → Float → Sums
 joined s x = record { width = s .width ⊕ one; total = s .total ⊕ x; variance = varianceWith (s .width) (s .total) (s .variance) x }
 
@@ -60,6 +64,7 @@ grown w x = record {
   taken = w .taken + 1;
 }
 
+-- whether a list has no bucket
 abbrev pub isEmpty : List Classed → Bool
 isEmpty [] = true
 isEmpty (b ∷ l) = false
@@ -89,6 +94,7 @@ updateOf w x =
 abbrev pub clamped : Float → Float
 clamped d = cond (lt d least) least (cond (lt most d) most d)
 
+-- "Fresh .. an empty window"
 abbrev pub newOf : Float → Window
 newOf d = record {
   delta = clamped d;
@@ -102,6 +108,7 @@ newOf d = record {
 abbrev pub meanOf : Sums → Float
 meanOf s = cond (lt nought (s .width)) (s .total ⊘ s .width) nought
 
+-- the width as a number
 abbrev pub widthOf : Sums → ℕ
 widthOf s = toUnsigned 64 (s .width)
 

@@ -50,6 +50,7 @@ impl Verdict {
     }
 }
 
+// What an update gives back: its answer, and the window after it.
 pub struct Updated {
     pub answer: Verdict,
     pub window: Adwin,

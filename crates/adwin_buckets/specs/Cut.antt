@@ -11,6 +11,7 @@ use Rattle.adwin_buckets.specs.declared.cut.CutTest.{CutTest}
 abbrev pub aOf : Float → Float → Float → Float
 aOf side n0 n1 = one ⊘ (n0 ⊖ side ⊕ one) ⊕ one ⊘ (n1 ⊖ side ⊕ one)
 
+-- 3, by the bits that the code's literal has
 abbrev three : Float
 three = ofBits binary64 0x4008_0000_0000_0000
 

@@ -11,6 +11,7 @@ use Rattle.model.specs.declared.link.Link.{Link}
 use Rattle.model.specs.DbInsert.{gains}
 use Rattle.db_gains.specs.declared.factor.Factor.{Factor}
 
+-- the fade from last to t, and last beside it
 abbrev pub factorOf : (lambda t last : Float) → Factor
 factorOf lambda t last = record { last = last; fade = fadeOf lambda t last }
 

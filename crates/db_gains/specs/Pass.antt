@@ -15,10 +15,12 @@ use Rattle.db_gains.specs.declared.pass.Step.{Step}
 use Rattle.db_gains.specs.Factor.{factorOf, sinceOf, gainsBy}
 use Rattle.db_gains.specs.Walk.{firstOf, nextOf}
 
+-- at the first pair and the first link; nothing is carried
 abbrev pub passFrom : List MicroId → (count : ℕ) (lambda t : Float) → Pass
 passFrom ids count lambda t =
     record { walk = firstOf ids t; count = min count linksMost; carries = false; carry = firstOf ids t .key; at = 0; factor = factorOf lambda t t }
 
+-- the place that the next turn looks at: the carried link's, or the one the walk stands at
 abbrev pub placeOf : Pass → ℕ
 placeOf s = min (cond (s .carries) (s .at) (s .walk .p)) (linksMost - 1)
 
@@ -105,9 +107,11 @@ lookedOf lambda t s l =
     (cond (sameEnds l (s .walk .key)) (gainedOf lambda t s l) (insertedOf lambda t s l)))
     (insertedOf lambda t s l)
 
+-- a turn: a link that is carried goes on, else the link at the place is looked at
 abbrev pub turnOf : (lambda t : Float) → Pass → Link → Turn
 turnOf lambda t s l = cond (s .carries) (carriedOf s l) (lookedOf lambda t s l)
 
+-- the pass at the next pair
 abbrev pub nextPass : List MicroId → (k : ℕ) (t : Float) → Pass → Pass
 nextPass ids k t s = record { walk = nextOf ids k t (s .walk); count = s .count; carries = s .carries; carry = s .carry; at = s .at; factor = s .factor }
 

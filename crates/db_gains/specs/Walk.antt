@@ -20,6 +20,7 @@ idAt ids i = getD ids (min i (microsMost - 1)) (record { 0 = 0 })
 abbrev pub pairsFrom : (k : ℕ) (ids : List MicroId) (i j : ℕ) → List (MicroId × MicroId)
 pairsFrom k ids i j = map (pairOf (idAt ids i)) (rest k j ids) ++ pairsOf (rest k (i + 1) ids)
 
+-- the walk at the first pair
 abbrev pub firstOf : List MicroId → (t : Float) → Walk
 firstOf ids t = record { i = 0; j = 1; p = 0; key = keyOf (idAt ids 0) (idAt ids 1) t }
 
@@ -28,6 +29,7 @@ abbrev pub walkTo : List MicroId → (t : Float) → Walk → (i j : ℕ) → Wa
 walkTo ids t w i j =
     record { i = i; j = j; p = cond (before (keyOf (idAt ids i) (idAt ids j) t) (w .key)) 0 (w .p); key = keyOf (idAt ids i) (idAt ids j) t }
 
+-- the walk at the next pair of the row, or at the first of the next row
 abbrev pub nextOf : List MicroId → (k : ℕ) (t : Float) → Walk → Walk
 nextOf ids k t w =
     cond (ltb (min (w .j) microsMost + 1) k)

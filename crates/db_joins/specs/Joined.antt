@@ -14,6 +14,7 @@ unfoldable pub placeAmong : List MicroId → MicroId → ℕ
 placeAmong [] id = 0
 placeAmong (a ∷ ids) id = cond (eqb (a .0) (id .0)) 0 (suc (placeAmong ids id))
 
+-- whether a link joins its ends: both are strong, and it has faded to no less than dense
 abbrev pub joinsBy : (ids : List MicroId) (strong : List Bool) (lambda t dense : Float) → Link → Bool
 joinsBy ids strong lambda t dense l =
     getD strong (placeAmong ids (l .lo)) false && getD strong (placeAmong ids (l .hi)) false && le dense (fadedLink lambda t l)

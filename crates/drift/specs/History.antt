@@ -31,6 +31,7 @@ abbrev pub given : Float → Nearest → List Float
 given radius Nothing = []
 given radius (Distance d2) = sqrtOf d2 ⊘ radius ∷ []
 
+-- the values that a list of observations gives the window
 unfoldable pub valuesSeen : Float → List Seen → List Float
 valuesSeen radius [] = []
 valuesSeen radius (o ∷ l) = given radius (o .nearest) ++ valuesSeen radius l

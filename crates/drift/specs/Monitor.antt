@@ -14,6 +14,7 @@ use Rattle.drift.specs.declared.LastAlarm.the-variants.{Never, At}
 use Rattle.drift.specs.declared.DriftReport.{DriftReport}
 use Rattle.drift.specs.declared.DriftMonitor.{DriftMonitor}
 
+-- the window, the radius that distances are counted in, the alarms, and the tick of the last
 pub record Monitor : Type 0 where
   pub window : Window
   pub radius : Float
@@ -24,6 +25,7 @@ pub record Monitor : Type 0 where
 abbrev pub delta : Float
 delta = ofBits binary64 0x3f60_624d_d2f1_a9fc
 
+-- "Fresh .. an empty window, no alarm"
 abbrev pub newOf : Float → Monitor
 newOf radius = record { window = window.newOf delta; radius = radius; alarms = 0; lastAlarm = Never }
 
@@ -45,5 +47,6 @@ observeOf m (Distance d2) t = heard m (updateOf (m .window) (sqrtOf d2 ⊘ m .ra
 abbrev pub reportOf : Monitor → DriftReport
 reportOf m = record { alarms = m .alarms; «last_alarm» = m .lastAlarm; distance = meanOf (m .window .sums); window = widthOf (m .window .sums) }
 
+-- the monitor that the struct is
 abbrev pub view : DriftMonitor → Monitor
 view m = record { window = window-view.view (m .adwin); radius = m .radius; alarms = m .alarms; lastAlarm = m .«last_alarm» }

@@ -15,6 +15,7 @@ pub enum LastAlarm {
     At(f64),
 }
 
+// What the monitor reports: the alarms rung, the tick of the last, and the window's mean and width.
 pub struct DriftReport {
     pub alarms: u64,
     pub last_alarm: LastAlarm,
@@ -23,6 +24,7 @@ pub struct DriftReport {
     pub window: usize,
 }
 
+// The window, the radius that distances are counted in, and the alarms rung so far.
 pub struct DriftMonitor {
     pub adwin: Adwin,
     pub radius: f64,
@@ -31,6 +33,7 @@ pub struct DriftMonitor {
 }
 
 impl DriftMonitor {
+    // Bifet's delta, for every stream.
     pub const DELTA: f64 = 0.002;
 
     // An empty window and no alarm; distances are counted in this radius.

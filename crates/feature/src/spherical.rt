@@ -4,6 +4,7 @@ ghost use mathlib.Core.Path.{_≡_};
 ghost use lib.ListN.{take};
 ghost use Rattle.feature.specs.Feature.{maxDim, empty, pushed, decayed};
 
+// Weight, mean, and the sum of squared deviations from it; places past dim are unused.
 pub struct Spherical {
     pub w: f64,
     pub mean: [f64; MAX_DIM],

@@ -6,6 +6,7 @@ use lib.Ieee.{Float, nan, inf, fin, up, down, neg}
 use Rattle.float.specs.Rounded.{whole}
 use Rattle.float.specs.Cut.{wholes}
 
+-- a whole number stays; else towards zero below it, and one more above
 unfoldable pub ceilOf : Float → Float
 ceilOf nan = nan
 ceilOf (inf s) = inf s

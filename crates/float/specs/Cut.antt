@@ -10,6 +10,7 @@ wholes nan = 0
 wholes (inf s) = 0
 wholes (fin s m e) = m * up e / down e
 
+-- the whole ones with the sign; infinity and NaN stay themselves
 unfoldable pub cutOf : Float → Float
 cutOf nan = nan
 cutOf (inf s) = inf s

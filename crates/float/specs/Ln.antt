@@ -31,5 +31,6 @@ lnBy e m =
 unfoldable pub lnOf : Float → Float
 lnOf v = cond (le one v && isFinite v) (lnBy (exponentOf v) (v ⊘ plusPower (exponentOf v))) v
 
+-- "log2 v = (ln v) / L"
 unfoldable pub log2Of : Float → Float
 log2Of v = lnOf v ⊘ L

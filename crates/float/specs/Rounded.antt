@@ -9,25 +9,31 @@ infixl 60 _⊕_
 infixl 60 _⊖_
 infixl 70 _⊗_
 infixl 70 _⊘_
+-- x + y, rounded once; so the other three
 abbrev pub _⊕_ : Float → Float → Float
 x ⊕ y = add binary64 x y
 
+-- x − y
 abbrev pub _⊖_ : Float → Float → Float
 x ⊖ y = sub binary64 x y
 
+-- x × y
 abbrev pub _⊗_ : Float → Float → Float
 x ⊗ y = mul binary64 x y
 
+-- x / y
 abbrev pub _⊘_ : Float → Float → Float
 x ⊘ y = div binary64 x y
 
--- 0, 1 and 2, by the bits that the code's literals have
+-- 0, by the bits that the code's literal has
 abbrev pub nought : Float
 nought = ofBits binary64 0
 
+-- 1, by its bits
 abbrev pub one : Float
 one = ofBits binary64 0x3ff0_0000_0000_0000
 
+-- 2, by its bits
 abbrev pub two : Float
 two = ofBits binary64 0x4000_0000_0000_0000
 

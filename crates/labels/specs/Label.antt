@@ -22,6 +22,7 @@ labelsFrom met [] rs = []
 labelsFrom met (b ∷ bs) [] = []
 labelsFrom met (b ∷ bs) (r ∷ rs) = cond b (pos (placeIn r met)) (negsuc 0) ∷ labelsFrom (cond b (meet met r) met) bs rs
 
+-- the labels of the places that the mask covers, with no root met before
 unfoldable pub labelsOf : (mask : List Bool) → (roots : List ℕ) → List ℤ
 labelsOf mask roots = labelsFrom [] mask roots
 

@@ -4,5 +4,6 @@ use mathlib.Core.List.{List}
 use lib.ListN.{take, drop}
 
 module _ {ℓ} {A : Type ℓ} where
+  -- of the first n elements those from i on
   unfoldable pub rest : ℕ → ℕ → List A → List A
   rest n i l = drop i (take n l)

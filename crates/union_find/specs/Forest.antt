@@ -6,6 +6,7 @@ use lib.Dec.{eqb, ltb}
 use lib.ListN.{getD, set, replicate}
 use Rattle.union_find.specs.declared.forest.UnionFind.{UnionFind}
 
+-- how many places there are: one for each micro-cluster held
 abbrev pub places : ℕ
 places = 64
 

@@ -7,6 +7,7 @@ ghost use Rattle.union_find.specs.Pairs.{pairsOf};
 ghost use Rattle.union_find.specs.Forest.{places, newOf, findOf, linkOf, unionOf, joinOf, joinAll, rootsOf};
 ghost use Rattle.union_find.specs.Inside.WellFormed.{Ranked, Sound};
 
+// The parent of each place, a root being its own, and the ranks of the roots.
 struct UnionFind {
     parent: [usize; PLACES],
     rank: [u8; PLACES],
@@ -63,6 +64,7 @@ impl UnionFind {
         UnionFind { parent, rank }
     }
 
+    // The classes of a and b made one.
     fn union(mut self, a: usize, b: usize) -> Self
         requires { ⌜ (Sound self) × (a < places) × (b < places) ⌝ }
         ensures { λ r. ⌜ r ≡ unionOf self a b ⌝ }

@@ -7,7 +7,9 @@ max-requires : tie.Need-max-requires
 max-requires c κs = search needs
 
 returns : tie.Need-returns
-returns c = rw (c .before .before .before .before .before .before .if1 .taken) (c .max .ensures)
+returns c =
+    let at-if1 = c .before .before .before .before .before .before in
+    rw (at-if1 .if1 .taken) (c .max .ensures)
 
 returns-2 : tie.Need-returns-2
 returns-2 c = rw (c .if1 .left)

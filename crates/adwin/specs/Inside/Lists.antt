@@ -9,10 +9,11 @@ use Rattle.adwin.specs.Window.{Window}
 abbrev pub withHeld : Window → List Classed → Window
 withHeld w held = record { delta = w .delta; held = held; sums = w .sums; sinceCheck = w .sinceCheck; taken = w .taken }
 
--- the window without its oldest bucket
+-- the sums without the oldest bucket
 abbrev pub withoutOldest : Sums → List Classed → Sums
 withoutOldest s [] = s
 withoutOldest s (b ∷ newer) = sumsWithout s (b .bucket)
 
+-- the window without its oldest bucket
 abbrev pub oldestDropped : Window → Window
 oldestDropped w = record { delta = w .delta; held = drop 1 (w .held); sums = withoutOldest (w .sums) (w .held); sinceCheck = w .sinceCheck; taken = w .taken }

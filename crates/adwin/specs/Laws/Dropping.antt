@@ -13,6 +13,7 @@ use Rattle.adwin.specs.Cut.{Sums, Searched, searchOf, mustDrop, bucketsO
 use Rattle.adwin.specs.History.{valuesIn, Sized}
 use Rattle.adwin.specs.Laws.Merging.{small}
 
+-- what a search drops and what it keeps are the buckets in their order, and the width is that of those kept
 pub record Split (held : List Classed) (r : Searched) : Type 0 where
   pub parts : held ≡ r .dropped ++ r .kept
   pub width : r .sums .width ≡ whole (valuesIn (r .kept))

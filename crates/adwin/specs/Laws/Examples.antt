@@ -10,6 +10,7 @@ use Rattle.adwin.specs.Buckets.{Classed}
 use Rattle.adwin.specs.Window.{Window, newOf}
 use Rattle.adwin.specs.History.{runOf}
 
+-- the sizes of the buckets, oldest first
 abbrev pub sizesOf : Window → List Float
 sizesOf w = map (λ (c : Classed). c .bucket .size) (w .held)
 

@@ -22,6 +22,7 @@ use Rattle.adwin.specs.Laws.Fewest.{not-full}
 use Rattle.adwin.specs.Laws.Merging.{small, pushed}
 use Rattle.adwin.specs.Laws.Dropping.{Split, splits}
 
+-- what holds of every window that started empty
 pub record Sound (w : Window) : Type 0 where
   pub stacked : Stacked 0 0 (reverse (w .held))
   pub sized : Sized (w .held)

@@ -7,6 +7,7 @@ use Rattle.adwin_buckets.specs.declared.cut.CutTest.{CutTest}
 use Rattle.adwin_buckets.specs.declared.search.Search.{Search}
 use Rattle.adwin_buckets.specs.Cut.{cutFails}
 
+-- before the first of n buckets, of which len are there
 abbrev pub searchFrom : CutTest → ℕ → ℕ → Search
 searchFrom c n len = record { test = c; n0 = nought; t0 = nought; at = 0; left = min n len; fails = false }
 
@@ -21,5 +22,6 @@ pastIf f s b = record {
   fails = cond f true (s .fails);
 }
 
+-- the search past the bucket b: a cut that fails ends it
 abbrev pub pastBucket : Search → Bucket → Search
 pastBucket s b = pastIf (cutFails (s .test) (s .n0 ⊕ b .size) (s .t0 ⊕ b .total)) s b

@@ -88,6 +88,7 @@ module _ (lambda t : Float) (ids : List MicroId) (k : ℕ) (goal ls : List Link)
           let fewer : pairsLeft ids k (nextOf ids k t (s .walk)) < pairsLeft ids k (s .walk) = less-next h live _ refl in
           ((right′, inl (off, w)), rw off (omega (arith, fewer)))
 
+      -- the pass that carries the new link to its place
       abbrev waiting : Pass
       waiting = record { walk = s .walk; count = s .count; carries = true; carry = gains lambda t (s .walk .key); at = s .walk .p; factor = s .factor }
 

@@ -42,6 +42,7 @@ pub record Walking (lambda t : Float) (ids : List MicroId) (k : ℕ) (goal ls : 
   pub passed : Passed (w .key) (take (w .p) ls)
   pub left : foldl (gainOf lambda t) (take n ls) (pairsFrom k ids (w .i) (w .j)) ≡ goal
 
+-- how many pairs are left: the measure
 abbrev pub pairsLeft : (ids : List MicroId) (k : ℕ) → Walk → ℕ
 pairsLeft ids k w = length (pairsFrom k ids (w .i) (w .j))
 

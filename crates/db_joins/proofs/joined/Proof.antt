@@ -86,17 +86,23 @@ loop-less c = search needs
 
 loop-again : tie.Need-loop-again Inv-loop μ-loop
 loop-again c =
-    let k = c .before .before .before .before .before .before .before .before .loop in
-    let e = c .before .before .before .before .before .before .before .before .before .before .before .args in
-    let n = c .before .before .before .before .before .before .before .before .before .cut2 .result in
-    let end = c .before .before .before .before .before .before .before .before .before .before .cut .result in
+    let at-place-of2 = c .before .before in
+    let at-place-of = at-place-of2 .before in
+    let at-test = at-place-of .before .before .before .before in
+    let at-loop = at-test .before in
+    let at-cut2 = at-loop .before in
+    let at-cut = at-cut2 .before in
+    let k = at-loop .loop in
+    let e = at-cut .before .args in
+    let n = at-cut2 .cut2 .result in
+    let end = at-cut .cut .result in
     let v = k .inv in
-    let h : k .q < end = c .before .before .before .before .before .before .before .loop-test .taken in
+    let h : k .q < end = at-test .loop-test .taken in
     let fits : end ≤ length (e .t1) = omega arith in
     let ids = take n (e .ids) in
     let strong = take n (e .strong) in
-    let lo = c .before .before .before .«place-of» in
-    let hi = c .before .before .«place-of2» in
+    let lo = at-place-of .«place-of» in
+    let hi = at-place-of2 .«place-of2» in
     ⊎-elim
     (λ w. rw (w .1, w .2, w .3) (
       omega arith,
@@ -123,10 +129,12 @@ loop-again c =
 
 returns : tie.Need-returns Inv-loop μ-loop
 returns c =
+    let at-cut2 = c .before .before in
+    let at-cut = at-cut2 .before in
     let k = c .before .loop in
-    let a = c .before .before .before .before .args in
-    let n = c .before .before .cut2 .result in (
-      sym (join-end (take n (a .ids)) (take n (a .strong)) (a .lambda) (a .t) (a .dense) (c .before .before .before .cut .result) (k .q) (a .t1)
+    let a = at-cut .before .args in
+    let n = at-cut2 .cut2 .result in (
+      sym (join-end (take n (a .ids)) (take n (a .strong)) (a .lambda) (a .t) (a .dense) (at-cut .cut .result) (k .q) (a .t1)
           (pairsOf (take (k .k) (k .a)) (take (k .k) (k .b))) (omega arith)) ∙ k .inv .5,
       omega arith,
     )

@@ -23,20 +23,26 @@ room-b : (c : tie.After-joined) → length (c .joined .result .b) ≡ linksMost
 room-b c = sym (length-map (c .joined .result .b) _) ∙ c .joined .ok .1 .1 .1 .0 .1 .0 .1
 
 array-share-prefix-a : tie.Need-array-share-prefix-a
-array-share-prefix-a c = omega (arith, room-a (c .before .before), c .before .before .joined .ensures .1)
+array-share-prefix-a c =
+    let at-joined = c .before .before in
+    omega (arith, room-a at-joined, at-joined .joined .ensures .1)
 
 slice-aggregate-roots : tie.Need-slice-aggregate-roots
 slice-aggregate-roots c =
-    sym (length-take-le _ (c .before .before .before .joined .result .a)
-    (omega (arith, room-a (c .before .before .before), c .before .before .before .joined .ensures .1)))
+    let at-joined = c .before .before .before in
+    sym (length-take-le _ (at-joined .joined .result .a)
+    (omega (arith, room-a at-joined, at-joined .joined .ensures .1)))
 
 array-share-prefix-b : tie.Need-array-share-prefix-b
-array-share-prefix-b c = omega (arith, room-b (c .before .before .before), c .before .before .before .joined .ensures .1)
+array-share-prefix-b c =
+    let at-joined = c .before .before .before in
+    omega (arith, room-b at-joined, at-joined .joined .ensures .1)
 
 slice-aggregate-roots-2 : tie.Need-slice-aggregate-roots-2
 slice-aggregate-roots-2 c =
-    sym (length-take-le _ (c .before .before .before .before .joined .result .b)
-    (omega (arith, room-b (c .before .before .before .before), c .before .before .before .before .joined .ensures .1)))
+    let at-joined = c .before .before .before .before in
+    sym (length-take-le _ (at-joined .joined .result .b)
+    (omega (arith, room-b at-joined, at-joined .joined .ensures .1)))
 
 roots-requires : tie.Need-roots-requires
 roots-requires c κs = search needs
@@ -46,11 +52,13 @@ labels-requires c κs = search needs
 
 returns : tie.Need-returns
 returns c =
-    let a = c .before .before .before .before .before .before .before .before .args in
-    let n = c .before .before .before .before .before .before .before .cut in
+    let at-joined = c .before .before .before .before .before .before in
+    let at-cut = at-joined .before in
+    let a = at-cut .before .args in
+    let n = at-cut .cut in
     labelled (a .n) (n .result) (a .ids) (a .strong) (a .lambda) (a .t) (a .dense) (take (a .count) (a .links)) _ (c .before .roots .result)
     (c .labels .result) (n .ensures) (omega arith) (omega arith) (omega arith) (omega arith)
-    (c .before .before .before .before .before .before .joined .ensures .0) (c .before .roots .ensures) (c .labels .ensures)
+    (at-joined .joined .ensures .0) (c .before .roots .ensures) (c .labels .ensures)
 
 pub labels-of-spec : {M : Type 1} → statement M
 labels-of-spec =

@@ -33,10 +33,12 @@ array-copy-out-a c = search needs
 
 returns : tie.Need-returns Inv-loop μ-loop
 returns c =
-    let k = c .before .before .before .before .before .loop in
-    let a = c .before .before .before .before .before .before .args in
+    let at-test = c .before .before .before .before in
+    let at-loop = at-test .before in
+    let k = at-loop .loop in
+    let a = at-loop .before .args in
     let e : placeAmong (rest (a .n) (k .i) (a .t1)) (a .id) ≡ 0 =
-    place-here (a .id) (a .n) (k .i) (a .t1) _ (c .before .before .before .before .loop-test .taken) (omega arith) (c .if1 .taken) in
+    place-here (a .id) (a .n) (k .i) (a .t1) _ (at-test .loop-test .taken) (omega arith) (c .if1 .taken) in
     omega arith
 
 add-i : tie.Need-add-i Inv-loop μ-loop
@@ -47,10 +49,12 @@ loop-less c = search needs
 
 loop-again : tie.Need-loop-again Inv-loop μ-loop
 loop-again c =
-    let k = c .before .before .before .before .before .loop in
-    let a = c .before .before .before .before .before .before .args in
+    let at-test = c .before .before .before .before in
+    let at-loop = at-test .before in
+    let k = at-loop .loop in
+    let a = at-loop .before .args in
     let e : placeAmong (rest (a .n) (k .i) (a .t1)) (a .id) ≡ suc (placeAmong (rest (a .n) (k .i + 1) (a .t1)) (a .id)) =
-    place-next (a .id) (a .n) (k .i) (a .t1) _ (c .before .before .before .before .loop-test .taken) (omega arith) (c .if1 .left) in
+    place-next (a .id) (a .n) (k .i) (a .t1) _ (at-test .loop-test .taken) (omega arith) (c .if1 .left) in
     (omega arith, omega arith)
 
 returns-2 : tie.Need-returns-2 Inv-loop μ-loop

@@ -24,6 +24,7 @@ use Rattle.float.specs.Laws.Compare.{lt-neg}
 use Rattle.float.specs.Laws.Ordered.{is-fin, le-trans-all, le-of-not-lt}
 use Rattle.float.specs.Laws.Whole.{whole-is, le-is}
 
+-- a finite double of the sign s and of a size of at most 1
 abbrev pub Within : Bool → Float → Type 0
 Within s nan = ⊥
 Within s (inf t) = ⊥

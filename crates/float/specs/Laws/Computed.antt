@@ -5,6 +5,7 @@ use Rattle.float.specs.TwoTo.{step, steps, twoTo}
 use Rattle.float.specs.Ln.{exponentOf, series, lnBy, lnOf, log2Of}
 use Rattle.float.specs.Ceil.{ceilOf}
 
+-- `unfolding computed` opens them all
 unfoldable pub computed : Unit {0}
 unfolding add sub mul div neg lt le eq rem isNan ofInt ofBits cutOf step steps twoTo exponentOf series lnBy lnOf log2Of ceilOf
 computed = tt

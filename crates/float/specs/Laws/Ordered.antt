@@ -16,10 +16,12 @@ use lib.Ieee.Scale.{round-same, finite}
 use Rattle.float.specs.Rounded.{nought}
 use Rattle.float.specs.Laws.Opened.{Plus, plus-round, round-neg, mul-fin, div-fin, add-fin, unlike-false}
 
+-- a size on the plus side: 0 for a negative number
 abbrev pub P : Bool → ℕ → ℕ
 P false a = a
 P true a = 0
 
+-- a size on the minus side: 0 for a positive number
 abbrev pub Q : Bool → ℕ → ℕ
 Q false a = 0
 Q true a = a

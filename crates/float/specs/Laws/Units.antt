@@ -14,6 +14,7 @@ use lib.Ieee.Fits.{and-l, and-r, down-pos}
 use lib.Ieee.Digits.{back}
 use lib.Ieee.Exact.{HasValue, round-exact}
 
+-- a double as a whole number of units of 2^−1074
 pub record Units (m : ℕ) (e : ℤ) : Type 0 where
   pub power : ℕ
   pub few : m < 2 ^ 53

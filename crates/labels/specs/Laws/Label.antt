@@ -100,12 +100,15 @@ all-more us (b ∷ bs) (r ∷ rs) =
     let rest = all-more (metBy us b r) bs rs in
     (one .0 ++ rest .0, rest .1 ∙ ap (λ (l : List ℕ). l ++ rest .0) (one .1) ∙ append-assoc us (one .0) (rest .0))
 
+-- the label of the place i; −1 past the end
 abbrev pub labelAt : List ℤ → ℕ → ℤ
 labelAt l i = getD l i (negsuc 0)
 
+-- the place i is not in the mask
 abbrev pub Outside : List Bool → ℕ → Type 0
 Outside mask i = getD mask i false ≡ false
 
+-- the place i is in the mask
 abbrev pub Inside : List Bool → ℕ → Type 0
 Inside mask i = getD mask i false ≡ true
 

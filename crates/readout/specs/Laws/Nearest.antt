@@ -16,6 +16,7 @@ abbrev sent : {A B : Type 0} → (A → B) → Near A → Near B
 sent f b = record { place = b .place; micro = f (b .micro); dist = b .dist }
 
 module _ {A B : Type 0} (distance : B → Float) (f : A → B) where
+  -- the distance of an element sent through f
   abbrev through : A → Float
   through a = distance (f a)
 
@@ -78,6 +79,7 @@ module _ {A : Type 0} (distance : A → Float) where
   found-some none p d e = let z : _≡_ {A = ℕ} 0 1 = cc in absurd (omega arith)
   found-some (some b) p d e = (b .micro, let u : b .place ≡ p = cc in let v : b .dist ≡ d = cc in rw (u, v))
 
+  -- the nearest of the list stands at that place and distance
   pub record FoundAt (l : List A) (place : ℕ) (dist : Float) : Type 0 where
     pub low : place < length l
     pub is : (z : A) → nearestOf distance l ≡ some (record { place = place; micro = getD l place z; dist = dist })

@@ -47,14 +47,18 @@ add-i c = omega arith
 
 loop-less : tie.Need-loop-less Inv-loop μ-loop
 loop-less c =
-    let l = c .before .before .loop in
-    let less = room (c .before .before .before .pre .0) (l .inv) (c .before .loop-test .taken) in
+    let at-loop = c .before .before in
+    let start = at-loop .before in
+    let l = at-loop .loop in
+    let less = room (start .pre .0) (l .inv) (c .before .loop-test .taken) in
     omega arith
 
 loop-again : tie.Need-loop-again Inv-loop μ-loop
 loop-again c =
-    let l = c .before .before .loop in
-    let less = room (c .before .before .before .pre .0) (l .inv) (c .before .loop-test .taken) in
+    let at-loop = c .before .before in
+    let start = at-loop .before in
+    let l = at-loop .loop in
+    let less = room (start .pre .0) (l .inv) (c .before .loop-test .taken) in
     ⊎-elim
     (λ w. moved (w .1) (w .2) (up (l .inv) (c .before .loop-test .taken) less (w .0 .taken)))
     (λ w. moved (w .1) (w .2) (down (l .inv) (c .before .loop-test .taken) less (w .0 .left)))

@@ -23,14 +23,19 @@ mul-if3 c = search needs
 
 doubled-requires : tie.Need-doubled-requires
 doubled-requires c κs =
-    let start = c .before .before .before .before in
-    checked (start .args .m) (c .before .before .guess .result) (c .before .before .before .if1 .taken) (start .pre .1) (c .before .if2 .taken) (c .if3 .taken)
+    let at-guess = c .before .before in
+    let at-if1 = at-guess .before in
+    let start = at-if1 .before in
+    checked (start .args .m) (at-guess .guess .result) (at-if1 .if1 .taken) (start .pre .1) (c .before .if2 .taken) (c .if3 .taken)
 
 returns : tie.Need-returns
 returns c =
-    let start = c .before .before .before .before .before in
-    found (start .args .m) (c .before .before .before .guess .result) (c .doubled .result) (c .before .before .before .before .if1 .taken)
-    (start .pre .1) (c .before .before .if2 .taken) (c .doubled .ensures)
+    let at-if2 = c .before .before in
+    let at-guess = at-if2 .before in
+    let at-if1 = at-guess .before in
+    let start = at-if1 .before in
+    found (start .args .m) (at-guess .guess .result) (c .doubled .result) (at-if1 .if1 .taken)
+    (start .pre .1) (at-if2 .if2 .taken) (c .doubled .ensures)
 
 by-digits-requires : tie.Need-by-digits-requires
 by-digits-requires c κs = search needs

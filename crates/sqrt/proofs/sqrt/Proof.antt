@@ -24,16 +24,18 @@ float-to-bits-b c = not-nan (c .before .before .args .x) (c .if2 .taken)
 
 rounded-requires : tie.Need-rounded-requires
 rounded-requires c κs =
-    let x = c .before .before .before .args .x in
-    (bits-pos x (held (c .before .before .before)) (c .before .if2 .taken), (omega arith, omega arith))
+    let start = c .before .before .before in
+    let x = start .args .x in
+    (bits-pos x (held start) (c .before .if2 .taken), (omega arith, omega arith))
 
 returns-2 : tie.Need-returns-2
 returns-2 c =
-    let s = c .before .before .before .before in
+    let at-if2 = c .before .before in
+    let s = at-if2 .before .before in
     let x = s .args .x in
     let b = toBits binary64 x in
     c .rounded .ensures ∙ sym (sqrt-of-value x (b * 2 ^ 0) (low-value x (held s) (c .before .if3 .taken))
-    (mul-pos (bits-pos x (held s) (c .before .before .if2 .taken)) (pow-pos 0)))
+    (mul-pos (bits-pos x (held s) (at-if2 .if2 .taken)) (pow-pos 0)))
 
 add-rounded : tie.Need-add-rounded
 add-rounded c = search needs
@@ -46,16 +48,20 @@ rounded-requires-2 c κs = search needs
 
 returns-3 : tie.Need-returns-3
 returns-3 c =
-    let s = c .before .before .before .before .before in
+    let at-if3 = c .before .before in
+    let s = at-if3 .before .before .before in
     let x = s .args .x in
     let b = toBits binary64 x in
     let lead : 0 < 2 ^ 52 + b % 2 ^ 52 = omega arith in
     c .rounded2 .ensures
     ∙ sym (sqrt-of-value x ((2 ^ 52 + b % 2 ^ 52) * 2 ^ (b / 2 ^ 52 - 1))
-    (high-value x (held s) (c .before .before .if3 .left) (c .before .if4 .taken)) (mul-pos lead (pow-pos (b / 2 ^ 52 - 1))))
+    (high-value x (held s) (at-if3 .if3 .left) (c .before .if4 .taken)) (mul-pos lead (pow-pos (b / 2 ^ 52 - 1))))
 
 returns-4 : tie.Need-returns-4
-returns-4 c = above-all (c .before .before .before .before .args .x) (held (c .before .before .before .before)) (c .before .before .if2 .taken) (c .if4 .left)
+returns-4 c =
+    let at-if2 = c .before .before in
+    let start = at-if2 .before .before in
+    above-all (start .args .x) (held start) (at-if2 .if2 .taken) (c .if4 .left)
 
 returns-5 : tie.Need-returns-5
 returns-5 c = neither (c .before .before .args .x) (c .before .if1 .left) (c .if2 .left)

@@ -52,6 +52,7 @@ module _ (m k q i : ℕ) (low-k : k ≤ 2097) (d : Rooted (m * (1 + k % 2)) q i)
   abbrev pub c : ℕ
   c = k / 2 + 82 - i
 
+  -- the number that q is the root of
   abbrev pub a : ℕ
   a = m * (1 + k % 2) * 4 ^ (i - 27)
 

@@ -37,6 +37,7 @@ pub record NearestRoot (n : ℕ) (y : Float) : Type 0 where
 -- ---- every m below 2 ^ 54 has a root of 54 digits
 
 module _ (m : ℕ) (some : 0 < m) (few : m < 2 ^ 54) where
+  -- how many rounds give m a root of 54 digits
   abbrev rounds : ℕ
   rounds = 54 + (54 - size m) / 2
 

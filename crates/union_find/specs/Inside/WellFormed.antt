@@ -14,6 +14,7 @@ use Rattle.union_find.specs.Forest.{places, up}
 abbrev pub weigh : List ℕ → List ℕ → ℕ → ℕ
 weigh p r i = cond (eqb (up p i) i) (2 ^ getD r i 0) 0
 
+-- parents and ranks of all places: ranks rise towards the root, none is above 6, and the roots weigh no more than the places
 pub record WellFormed (p r : List ℕ) : Type 0 where
   pub plen : length p ≡ places
   pub rlen : length r ≡ places
@@ -26,5 +27,6 @@ pub record WellFormed (p r : List ℕ) : Type 0 where
 abbrev pub Ranked : List ℕ → Type 0
 Ranked p = (r : List ℕ) × WellFormed p r
 
+-- a forest whose ranks rise with its parents
 abbrev pub Sound : UnionFind → Type 0
 Sound u = WellFormed (u .parent) (u .rank)

@@ -20,6 +20,7 @@ use Rattle.union_find.specs.Laws.Find.{Finds, find-law}
 
 -- the four ways of a link
 module _ (u : UnionFind) (x y : ℕ) where
+  -- the ranks of the two
   abbrev rank-x : ℕ
   rank-x = getD (u .rank) x 0
 

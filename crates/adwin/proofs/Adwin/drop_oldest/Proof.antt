@@ -33,7 +33,8 @@ sub-m c = search needs
 
 loop-holds : tie.Need-loop-holds Inv-loop μ-loop
 loop-holds c =
-    closing-starts _ _ _ (buckets-room (c .before .before)) (classes-room (c .before .before)) (omega arith) (c .before .before .pre .1) (omega arith)
+    let start = c .before .before in
+    closing-starts _ _ _ (buckets-room start) (classes-room start) (omega arith) (start .pre .1) (omega arith)
 
 add-p : tie.Need-add-p Inv-loop μ-loop
 add-p c = search needs
@@ -60,14 +61,20 @@ loop-less : tie.Need-loop-less Inv-loop μ-loop
 loop-less c = search needs
 
 loop-again : tie.Need-loop-again Inv-loop μ-loop
-loop-again c = closing-steps _ _ _ _ _ _ (c .before .before .before .loop .inv) (c .before .before .loop-test .taken)
+loop-again c =
+    let at-test = c .before .before in
+    let at-loop = at-test .before in
+    closing-steps _ _ _ _ _ _ (at-loop .loop .inv) (at-test .loop-test .taken)
 
 returns : tie.Need-returns Inv-loop μ-loop
 returns c =
-    let e = c .before .before .before .before .before .before in (
+    let at-test = c .before .before in
+    let at-loop = at-test .before in
+    let at-variance-without = at-loop .before in
+    let e = at-variance-without .before .before in (
       omega arith,
       dropped-is (e .args .t1) _ _ _ _ _ (buckets-room e) (classes-room e) (e .pre .0)
-          (c .before .before .before .before .variance-without .ensures) (c .before .before .before .loop .inv) (c .before .before .loop-test .left),
+          (at-variance-without .variance-without .ensures) (at-loop .loop .inv) (at-test .loop-test .left),
     )
 
 pub drop-oldest-spec : {M : Type 1} → statement M

@@ -124,17 +124,24 @@ loop2-less : tie.Need-loop2-less Inv-loop2 μ-loop2 Inv-loop μ-loop
 loop2-less c = search needs
 
 loop2-again : tie.Need-loop2-again Inv-loop2 μ-loop2 Inv-loop μ-loop
-loop2-again c = closing-steps _ _ _ _ _ _ (c .before .before .before .loop2 .inv) (c .before .before .loop2-test .taken)
+loop2-again c =
+    let at-test = c .before .before in
+    let at-loop2 = at-test .before in
+    closing-steps _ _ _ _ _ _ (at-loop2 .loop2 .inv) (at-test .loop2-test .taken)
 
 loop-less-2 : tie.Need-loop-less-2 Inv-loop2 μ-loop2 Inv-loop μ-loop
 loop-less-2 c = search needs
 
 loop-again-2 : tie.Need-loop-again-2 Inv-loop2 μ-loop2 Inv-loop μ-loop
 loop-again-2 c =
-    let p = c .before .before .before .before .before .before .before .before .before .before .before in
-    walk-merges _ _ _ _ _ (p .loop .inv) (p .loop .i - 1) (omega arith) (c .before .before .before .before .before .before .before .if1 .left)
-    (c .before .before .before .before .before .before .if2 .taken) _ _ (c .before .before .before .merged .ensures)
-    (c .before .before .next-class .ensures) _ _ _ (c .before .loop2 .inv) (c .loop2-test .left)
+    let at-next-class = c .before .before in
+    let at-merged = at-next-class .before in
+    let at-if2 = at-merged .before .before .before in
+    let at-if1 = at-if2 .before in
+    let p = at-if1 .before .before .before .before in
+    walk-merges _ _ _ _ _ (p .loop .inv) (p .loop .i - 1) (omega arith) (at-if1 .if1 .left)
+    (at-if2 .if2 .taken) _ _ (at-merged .merged .ensures)
+    (at-next-class .next-class .ensures) _ _ _ (c .before .loop2 .inv) (c .loop2-test .left)
 
 add-k : tie.Need-add-k Inv-loop2 μ-loop2 Inv-loop μ-loop
 add-k c = search needs

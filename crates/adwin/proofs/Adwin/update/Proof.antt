@@ -30,14 +30,16 @@ pushed :
     Pushed (c .before .before .before .before .before .before .before .args .self)
     (c .before .before .before .before .before .before .before .args .value) (c .push-bucket .result) (c .before .before .variance-with .result)
 pushed c =
-    let r = c .before .before .before .before in
+    let at-variance-with = c .before .before in
+    let at-if2 = at-variance-with .before in
+    let r = at-if2 .before in
     let f = r .before .before in
     let a = f .before .args .self in
     record {
       finite = sym (f .is-finite .ensures) ∙ not-false _ (r .before .if1 .left);
-      room = sym (room-told (f .before)) ∙ sym (r .has-room .ensures) ∙ not-false _ (c .before .before .before .if2 .left);
+      room = sym (room-told (f .before)) ∙ sym (r .has-room .ensures) ∙ not-false _ (at-if2 .if2 .left);
       held = c .push-bucket .ensures .1 ∙ ap (λ (b : Bucket). withHeld (view a) (pushOf (heldOf a) b)) (c .before .single .ensures);
-      variance = c .before .before .variance-with .ensures;
+      variance = at-variance-with .variance-with .ensures;
     }
 
 is-finite-requires : tie.Need-is-finite-requires
@@ -68,17 +70,20 @@ single-requires c κs = search needs
 
 push-bucket-requires : tie.Need-push-bucket-requires
 push-bucket-requires c κs =
-    let a = c .before .before .before .before .before .before .args .self in
-    has-place (a .taken) (a .count) (sym (c .before .before .before .has-room .ensures) ∙ not-false _ (c .before .before .if2 .left))
+    let at-if2 = c .before .before in
+    let at-has-room = at-if2 .before in
+    let a = at-has-room .before .before .before .args .self in
+    has-place (a .taken) (a .count) (sym (at-has-room .has-room .ensures) ∙ not-false _ (at-if2 .if2 .left))
 
 add-w : tie.Need-add-w
 add-w c =
+    let start = c .before .before .before .before .before .before .before .before .before .before in
     let p = pushed (c .before .before .before) in
     omega (
       arith,
       ap (λ (u : Window). u .taken) (p .held),
       room-taken
-          (view (c .before .before .before .before .before .before .before .before .before .before .args .self)) (p .room),
+          (view (start .args .self)) (p .room),
     )
 
 sub-if3 : tie.Need-sub-if3

@@ -16,22 +16,32 @@ density-requires c κs = search needs
 
 returns : tie.Need-returns
 returns c =
-    let a = c .before .before .before .before .before .before .before .before .args in
+    let at-if2 = c .before .before .before .before in
+    let at-is-among2 = at-if2 .before in
+    let at-if1 = at-is-among2 .before in
+    let at-is-among = at-if1 .before in
+    let a = at-is-among .before .args in
     let one =
-    sym (c .before .before .before .before .before .before .before .is-among .ensures) ∙ c .before .before .before .before .before .before .if1 .taken in
-    let other = sym (c .before .before .before .before .before .is-among2 .ensures) ∙ c .before .before .before .before .if2 .taken in
+    sym (at-is-among .is-among .ensures) ∙ at-if1 .if1 .taken in
+    let other = sym (at-is-among2 .is-among2 .ensures) ∙ at-if2 .if2 .taken in
     rw (one, other, ne-eqb (a .a .0) (a .b .0) (c .before .if3 .taken), ← c .density .ensures) refl
 
 returns-2 : tie.Need-returns-2
 returns-2 c =
-    let a = c .before .before .before .before .before .before .before .args in
-    let one = sym (c .before .before .before .before .before .before .is-among .ensures) ∙ c .before .before .before .before .before .if1 .taken in
-    let other = sym (c .before .before .before .before .is-among2 .ensures) ∙ c .before .before .before .if2 .taken in
+    let at-if2 = c .before .before .before in
+    let at-is-among2 = at-if2 .before in
+    let at-if1 = at-is-among2 .before in
+    let at-is-among = at-if1 .before in
+    let a = at-is-among .before .args in
+    let one = sym (at-is-among .is-among .ensures) ∙ at-if1 .if1 .taken in
+    let other = sym (at-is-among2 .is-among2 .ensures) ∙ at-if2 .if2 .taken in
     rw (one, other, eq-eqb (a .a .0) (a .b .0) (c .if3 .left)) refl
 
 returns-3 : tie.Need-returns-3
 returns-3 c =
-    let one = sym (c .before .before .before .is-among .ensures) ∙ c .before .before .if1 .taken in
+    let at-if1 = c .before .before in
+    let at-is-among = at-if1 .before in
+    let one = sym (at-is-among .is-among .ensures) ∙ at-if1 .if1 .taken in
     let other = sym (c .before .is-among2 .ensures) ∙ c .if2 .left in
     rw (one, other) refl
 

@@ -55,12 +55,13 @@ faded-requires c κs = search needs
 
 returns : tie.Need-returns Inv-loop μ-loop
 returns c =
-    let k = c .before .before .before .before .before in
+    let at-same-ends = c .before .before in
+    let k = at-same-ends .before .before .before in
     let a = k .before .before .before .args in
     let o = over (a .lambda) (a .t) (a .mean) in
     ap (λ (v : Float). v ⊘ a .mean) (c .faded .ensures)
     ∙ sym (link-here o (k .before .«key-of» .result) (k .before .before .cut .result) (k .loop .i) (a .t1) _ (omega arith) (omega arith)
-    (sym (c .before .before .«same-ends» .ensures) ∙ c .before .if1 .taken))
+    (sym (at-same-ends .«same-ends» .ensures) ∙ c .before .if1 .taken))
     ∙ k .loop .inv .2 ∙ ap (λ (key : Link). ofLink o key (take (a .count) (a .t1))) (k .before .«key-of» .ensures)
 
 add-i : tie.Need-add-i Inv-loop μ-loop

@@ -51,8 +51,9 @@ loop-less c = search needs
 
 loop-again : tie.Need-loop-again Inv-loop μ-loop
 loop-again c =
-    let k = c .before .before .before .before .loop in
-    let h = c .before .before .before .loop-test .taken in
+    let at-test = c .before .before .before in
+    let k = at-test .before .loop in
+    let h = at-test .loop-test .taken in
     let v = c .before .stays .ensures in
     ⊎-elim (λ w. keep-takes (k .inv) _ _ _ _ h v (w .0 .taken) (w .1) (w .2)) (λ w. keep-drops (k .inv) _ _ _ _ h v (w .0 .left) (w .1) (w .2)) (c .if1 .came)
 

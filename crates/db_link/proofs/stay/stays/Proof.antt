@@ -17,16 +17,21 @@ faded-requires c κs = search needs
 
 returns : tie.Need-returns
 returns c =
-    let e = c .before .before .before .before .before .before .before .args in
+    let at-is-among2 = c .before .before in
+    let at-if1 = at-is-among2 .before in
+    let at-is-among = at-if1 .before in
+    let e = at-is-among .before .before .before .args in
     both-held (e .lambda) (e .floor) (e .t) (take (e .n) (e .ids)) (e .l) (c .faded .result) _
-    (sym (c .before .before .before .before .«is-among» .ensures) ∙ c .before .before .before .if1 .taken)
-    (sym (c .before .before .«is-among2» .ensures) ∙ c .before .if2 .taken) (c .faded .ensures) refl
+    (sym (at-is-among .«is-among» .ensures) ∙ at-if1 .if1 .taken)
+    (sym (at-is-among2 .«is-among2» .ensures) ∙ c .before .if2 .taken) (c .faded .ensures) refl
 
 returns-2 : tie.Need-returns-2
 returns-2 c =
-    let e = c .before .before .before .before .before .before .args in
+    let at-if1 = c .before .before in
+    let at-is-among = at-if1 .before in
+    let e = at-is-among .before .before .before .args in
     lost-hi (e .lambda) (e .floor) (e .t) (take (e .n) (e .ids)) (e .l)
-    (sym (c .before .before .before .«is-among» .ensures) ∙ c .before .before .if1 .taken) (sym (c .before .«is-among2» .ensures) ∙ c .if2 .left)
+    (sym (at-is-among .«is-among» .ensures) ∙ at-if1 .if1 .taken) (sym (c .before .«is-among2» .ensures) ∙ c .if2 .left)
 
 returns-3 : tie.Need-returns-3
 returns-3 c =

@@ -12,11 +12,16 @@ use Rattle.float.proofs.ceiling.ceil.Tie as tie
 -- ---- what the tests tell
 in-below : (c : tie.Then3) → Below (c .before .before .before .args .x)
 unfolding ofBits neg
-in-below c = below (c .before .before .before .args .x) (c .if3 .taken) (c .before .if2 .taken)
+in-below c =
+    let start = c .before .before .before in
+    below (start .args .x) (c .if3 .taken) (c .before .if2 .taken)
 
 in-above : (c : tie.Else3) → Above (c .before .before .before .args .x)
 unfolding ofBits
-in-above c = above (c .before .before .before .args .x) (c .if3 .left) (c .before .before .if1 .taken)
+in-above c =
+    let at-if1 = c .before .before in
+    let start = at-if1 .before in
+    above (start .args .x) (c .if3 .left) (at-if1 .if1 .taken)
 
 held : (c : tie.Start) → T (fits binary64 (c .args .x))
 held c = subst T (sym (c .good .0 .1)) tt
@@ -63,7 +68,8 @@ add-result c = omega (arith, small-2 (c .before .before))
 int-to-float-result : tie.Need-int-to-float-result
 unfolding inFloat
 int-to-float-result c =
-    le→leb (c .before .before .before .truncating-f64-to-u642 .result + 1) 0x20_0000_0000_0000 (omega (arith, small-2 (c .before .before .before)))
+    let at-cut = c .before .before .before in
+    le→leb (at-cut .truncating-f64-to-u642 .result + 1) 0x20_0000_0000_0000 (omega (arith, small-2 at-cut))
 
 returns-3 : tie.Need-returns-3
 returns-3 c =
@@ -77,7 +83,9 @@ returns-4 c =
 
 returns-5 : tie.Need-returns-5
 unfolding ofBits neg
-returns-5 c = sym (far-down (c .before .before .args .x) (held (c .before .before)) (c .if2 .left))
+returns-5 c =
+    let start = c .before .before in
+    sym (far-down (start .args .x) (held start) (c .if2 .left))
 
 returns-6 : tie.Need-returns-6
 unfolding ofBits

@@ -37,7 +37,9 @@ power-up-requires c κs = c .exponent .ensures .1
 
 int-to-float-result : tie.Need-int-to-float-result
 unfolding inFloat
-int-to-float-result c = le→leb (c .before .before .exponent .result) 0x20_0000_0000_0000 (omega (arith, c .before .before .exponent .ensures .1))
+int-to-float-result c =
+    let at-exponent = c .before .before in
+    le→leb (at-exponent .exponent .result) 0x20_0000_0000_0000 (omega (arith, at-exponent .exponent .ensures .1))
 
 log-series-requires : tie.Need-log-series-requires
 log-series-requires c κs = search needs
@@ -45,13 +47,17 @@ log-series-requires c κs = search needs
 returns : tie.Need-returns
 unfolding lnBy ofBits
 returns c =
-    let x = c .before .before .before in
-    rw (c .log-series .ensures, c .before .before .power-up .ensures, x .exponent .ensures .0)
+    let at-power-up = c .before .before in
+    let x = at-power-up .before in
+    rw (c .log-series .ensures, at-power-up .power-up .ensures, x .exponent .ensures .0)
     (sym (ln-case (x .before .before .before .before .args .v) true true (at-least (x .before)) (is-finite (x .before))))
 
 returns-2 : tie.Need-returns-2
 unfolding ofBits
-returns-2 c = sym (ln-case (c .before .before .before .args .v) true false (c .before .before .if1 .taken) (sym (c .before .is-finite .ensures) ∙ c .if2 .left))
+returns-2 c =
+    let at-if1 = c .before .before in
+    let start = at-if1 .before in
+    sym (ln-case (start .args .v) true false (at-if1 .if1 .taken) (sym (c .before .is-finite .ensures) ∙ c .if2 .left))
 
 returns-3 : tie.Need-returns-3
 unfolding ofBits

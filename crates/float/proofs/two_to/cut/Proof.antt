@@ -29,11 +29,15 @@ shr-result c = search needs
 int-to-float-result : tie.Need-int-to-float-result
 unfolding inFloat
 int-to-float-result c =
-    le→leb (shiftOf (c .before .before .before .args .y)) 0x20_0000_0000_0000
-    (known (c .before .before .before) .within (c .before .before .if1 .left) (c .before .if2 .taken) .0)
+    let at-if1 = c .before .before in
+    let start = at-if1 .before in
+    le→leb (shiftOf (start .args .y)) 0x20_0000_0000_0000
+    (known start .within (at-if1 .if1 .left) (c .before .if2 .taken) .0)
 
 returns-2 : tie.Need-returns-2
-returns-2 c = sym (known (c .before .before .before) .within (c .before .before .if1 .left) (c .before .if2 .taken) .1)
+returns-2 c =
+    let at-if1 = c .before .before in
+    sym (known (at-if1 .before) .within (at-if1 .if1 .left) (c .before .if2 .taken) .1)
 
 returns-3 : tie.Need-returns-3
 returns-3 c = sym (known (c .before .before) .beyond (c .if2 .left))

@@ -28,7 +28,9 @@ cut-requires c κs = subst T (sym (c .if1 .taken)) tt
 
 returns : tie.Need-returns
 returns c =
-    sym (by-tests (c .before .before .before .args .y) (c .before .cut .result) true true (c .before .before .if1 .taken) (c .before .cut .ensures)
+    let at-if1 = c .before .before in
+    let start = at-if1 .before in
+    sym (by-tests (start .args .y) (c .before .cut .result) true true (at-if1 .if1 .taken) (c .before .cut .ensures)
     (rw limit at (c .if2 .taken)))
 
 left : (c : tie.Else2) → lt (c .before .cut .result) least ≡ false
@@ -36,8 +38,10 @@ left c = rw limit at (c .if2 .left)
 
 small : (c : tie.Else2) → Small (c .before .cut .result)
 small c =
+    let at-if1 = c .before .before in
+    let start = at-if1 .before in
     subst Small (sym (c .before .cut .ensures))
-    (small-cut (c .before .before .before .args .y) (c .before .before .if1 .taken) (rw (c .before .cut .ensures) at (left c)))
+    (small-cut (start .args .y) (at-if1 .if1 .taken) (rw (c .before .cut .ensures) at (left c)))
 
 truncating-f64-to-u64-requires : tie.Need-truncating-f64-to-u64-requires
 truncating-f64-to-u64-requires c κs = (small c .over, small c .under)

@@ -54,9 +54,11 @@ loop-less c = search needs
 
 loop-again : tie.Need-loop-again Inv-loop μ-loop
 loop-again c =
-    let a = c .before .before .before .before .args in
-    let l = c .before .before .loop in
-    let end = c .before .before .before .cut .result in
+    let at-loop = c .before .before in
+    let at-cut = at-loop .before in
+    let a = at-cut .before .args in
+    let l = at-loop .loop in
+    let end = at-cut .cut .result in
     ⊎-elim (λ w. subst (λ (s : List Float). Summing (a .t1) (a .t2) end s (l .i + 1)) (sym (w .1))
     (sums-take (a .t1) (a .t2) end (l .sums) (l .i) (l .inv) (c .before .loop-test .taken) (omega arith) (omega arith) (omega arith) (w .0 .taken)))
     (λ w. subst (λ (s : List Float). Summing (a .t1) (a .t2) end s (l .i + 1)) (sym (w .1))
@@ -65,11 +67,12 @@ loop-again c =
 
 returns : tie.Need-returns Inv-loop μ-loop
 returns c =
-    let a = c .before .before .before .args in
+    let at-cut = c .before .before in
+    let a = at-cut .before .args in
     let l = c .before .loop in
-    let e : l .i ≡ c .before .before .cut .result = omega arith in
-    sums-end (a .t1) (a .t2) (a .n) (c .before .before .cut .result) (l .sums) (c .before .before .cut .ensures) (omega arith)
-    (subst (Summing (a .t1) (a .t2) (c .before .before .cut .result) (l .sums)) e (l .inv))
+    let e : l .i ≡ at-cut .cut .result = omega arith in
+    sums-end (a .t1) (a .t2) (a .n) (at-cut .cut .result) (l .sums) (at-cut .cut .ensures) (omega arith)
+    (subst (Summing (a .t1) (a .t2) (at-cut .cut .result) (l .sums)) e (l .inv))
 
 pub sums-spec : {M : Type 1} → statement M
 sums-spec =

@@ -46,11 +46,13 @@ add-count c = search needs
 
 label-requires : tie.Need-label-requires Inv-loop μ-loop
 label-requires c κs =
-    let l = c .before .before .before .before .loop in
+    let at-loop = c .before .before .before .before in
+    let start = at-loop .before .before in
+    let l = at-loop .loop in
     omega (
       arith,
       c .before .place-in .ensures,
-      place-most (getD (c .before .before .before .before .before .before .args .t1) (l .i) 0) (l .count)
+      place-most (getD (start .args .t1) (l .i) 0) (l .count)
           (l .met),
       l .inv .few,
     )
@@ -69,9 +71,11 @@ loop-less c = search needs
 
 loop-again : tie.Need-loop-again Inv-loop μ-loop
 loop-again c =
-    let a = c .before .before .before .before .args in
-    let l = c .before .before .loop in
-    let end = c .before .before .before .cut .result in
+    let at-loop = c .before .before in
+    let at-cut = at-loop .before in
+    let a = at-cut .before .args in
+    let l = at-loop .loop in
+    let end = at-cut .cut .result in
     ⊎-elim
     (λ w.
     let stored = toZ-ofZ (sfits-of {w = w64} (w .3 .ok)) ∙ w .3 .ensures in
@@ -89,11 +93,12 @@ loop-again c =
 
 returns : tie.Need-returns Inv-loop μ-loop
 returns c =
-    let a = c .before .before .before .args in
+    let at-cut = c .before .before in
+    let a = at-cut .before .args in
     let l = c .before .loop in
-    let e : l .i ≡ c .before .before .cut .result = omega arith in
-    labels-end (a .t2) (a .t1) (a .n) (c .before .before .cut .result) (l .labels) (l .met) (l .count) (c .before .before .cut .ensures)
-    (omega arith) (subst (Labelling (a .t2) (a .t1) (c .before .before .cut .result) (l .labels) (l .met) (l .count)) e (l .inv))
+    let e : l .i ≡ at-cut .cut .result = omega arith in
+    labels-end (a .t2) (a .t1) (a .n) (at-cut .cut .result) (l .labels) (l .met) (l .count) (at-cut .cut .ensures)
+    (omega arith) (subst (Labelling (a .t2) (a .t1) (at-cut .cut .result) (l .labels) (l .met) (l .count)) e (l .inv))
 
 pub labels-spec : {M : Type 1} → statement M
 labels-spec =

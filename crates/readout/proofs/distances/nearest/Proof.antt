@@ -53,9 +53,11 @@ loop-less c = search needs
 
 loop-again : tie.Need-loop-again Inv-loop μ-loop
 loop-again c =
-    let a = c .before .before .before .before .before .args in
-    let end = c .before .before .before .before .cut .result in
-    let l = c .before .before .loop in
+    let at-loop = c .before .before in
+    let at-cut = at-loop .before .before in
+    let a = at-cut .before .args in
+    let end = at-cut .cut .result in
+    let l = at-loop .loop in
     let h : end ≤ length (a .t1) = omega arith in
     let k : l .i < end = c .before .loop-test .taken in (
       omega arith,
@@ -67,8 +69,9 @@ loop-again c =
 
 returns-2 : tie.Need-returns-2 Inv-loop μ-loop
 returns-2 c =
-    let a = c .before .before .before .before .args in
-    let end = c .before .before .before .cut .result in
+    let at-cut = c .before .before .before in
+    let a = at-cut .before .args in
+    let end = at-cut .cut .result in
     let l = c .before .loop in
     let h : end ≤ length (a .t1) = omega arith in
     sym (found-end end (a .t1) h (l .place) (l .dist) (l .i) (omega arith)) ∙ l .inv .1

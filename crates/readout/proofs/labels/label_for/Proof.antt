@@ -21,7 +21,9 @@ cut-requires-2 : tie.Need-cut-requires-2
 cut-requires-2 c κs = search needs
 
 returns : tie.Need-returns
-returns c = label-differ (c .before .before .before .args .radius2) (counted (c .before)) (c .if1 .taken)
+returns c =
+    let start = c .before .before .before in
+    label-differ (start .args .radius2) (counted (c .before)) (c .if1 .taken)
 
 nearest-requires : tie.Need-nearest-requires
 nearest-requires c κs = search needs
@@ -34,39 +36,58 @@ enum-told c = search needs
 
 returns-2 : tie.Need-returns-2
 returns-2 c =
-    label-found (c .before .before .before .before .before .before .args .radius2) (counted (c .before .before .before .before))
-    (c .before .before .before .if1 .left) (c .before .before .nearest .ensures) Nothing (c .enum-told .given .1)
+    let at-nearest = c .before .before in
+    let at-if1 = at-nearest .before in
+    let start = at-if1 .before .before .before in
+    label-found (start .args .radius2) (counted (at-if1 .before))
+    (at-if1 .if1 .left) (at-nearest .nearest .ensures) Nothing (c .enum-told .given .1)
 
 mul-result : tie.Need-mul-result
 mul-result c =
+    let at-found = c .before .before in
+    let at-nearest = at-found .before .before in
+    let at-if1 = at-nearest .before in
+    let start = at-if1 .before .before .before in
     omega (
       arith,
-      place-low (c .before .before .before .before .before .before .before .before .args .radius2)
-          (counted (c .before .before .before .before .before .before)) (c .before .before .before .before .before .if1 .left)
-          (c .before .before .before .before .nearest .ensures) (c .before .before .found .given .1),
+      place-low (start .args .radius2)
+          (counted (at-if1 .before)) (at-if1 .if1 .left)
+          (at-nearest .nearest .ensures) (at-found .found .given .1),
     )
 
 array-copy-out-result : tie.Need-array-copy-out-result
 array-copy-out-result c =
+    let at-found = c .before .before in
+    let at-nearest = at-found .before .before in
+    let at-if1 = at-nearest .before in
+    let start = at-if1 .before .before .before in
     omega (
       arith,
-      place-low (c .before .before .before .before .before .before .before .before .args .radius2)
-          (counted (c .before .before .before .before .before .before)) (c .before .before .before .before .before .if1 .left)
-          (c .before .before .before .before .nearest .ensures) (c .before .before .found .given .1),
+      place-low (start .args .radius2)
+          (counted (at-if1 .before)) (at-if1 .if1 .left)
+          (at-nearest .nearest .ensures) (at-found .found .given .1),
     )
 
 returns-3 : tie.Need-returns-3
 returns-3 c =
-    label-near (c .before .before .before .before .before .before .before .before .before .args .radius2)
-    (counted (c .before .before .before .before .before .before .before)) (c .before .before .before .before .before .before .if1 .left)
-    (c .before .before .before .before .before .nearest .ensures) (c .before .before .before .found .given .1) (c .before .if2 .taken) _
+    let at-found = c .before .before .before in
+    let at-nearest = at-found .before .before in
+    let at-if1 = at-nearest .before in
+    let start = at-if1 .before .before .before in
+    label-near (start .args .radius2)
+    (counted (at-if1 .before)) (at-if1 .if1 .left)
+    (at-nearest .nearest .ensures) (at-found .found .given .1) (c .before .if2 .taken) _
     (toZ-ofZ (sfits-of {w = w64} (c .result .given)))
 
 returns-4 : tie.Need-returns-4
 returns-4 c =
-    label-far (c .before .before .before .before .before .before .before .before .args .radius2)
-    (counted (c .before .before .before .before .before .before)) (c .before .before .before .before .before .if1 .left)
-    (c .before .before .before .before .nearest .ensures) (c .before .before .found .given .1) (c .if2 .left)
+    let at-found = c .before .before in
+    let at-nearest = at-found .before .before in
+    let at-if1 = at-nearest .before in
+    let start = at-if1 .before .before .before in
+    label-far (start .args .radius2)
+    (counted (at-if1 .before)) (at-if1 .if1 .left)
+    (at-nearest .nearest .ensures) (at-found .found .given .1) (c .if2 .left)
 
 pub label-for-spec : {M : Type 1} → statement M
 label-for-spec =

@@ -59,25 +59,29 @@ loop-less c = search needs
 
 loop-again : tie.Need-loop-again Inv-loop μ-loop
 loop-again c =
-    let a = c .before .before .before .before .before .before .args in
-    let end = c .before .before .before .before .before .cut .result in
-    let l = c .before .before .before .before .loop in
+    let at-label = c .before .before in
+    let at-test = at-label .before in
+    let at-loop = at-test .before in
+    let at-cut = at-loop .before in
+    let a = at-cut .before .args in
+    let end = at-cut .cut .result in
+    let l = at-loop .loop in
     let label = toZ w64 (ofZ w64 (getD (a .t1) (l .i) (pos 0))) in
-    let step = count-step end (l .i) (a .t1) label (toZ-ofZ (sfits-of {w = w64} (c .before .before .label .given))) in
+    let step = count-step end (l .i) (a .t1) label (toZ-ofZ (sfits-of {w = w64} (at-label .label .given))) in
     ⊎-elim
     (λ w.
     let s =
     step true false (sym (c .before .same-family .ensures) ∙ w .0 .taken) (sym (w .1 .ensures) ∙ not-true _ (w .2 .taken))
-    (c .before .before .before .loop-test .taken) (omega arith) in
+    (at-test .loop-test .taken) (omega arith) in
     (omega arith, omega (arith, w .3), omega (arith, w .3, s, l .inv .2)))
     (⊎-elim
     (λ w.
     let s =
     step true true (sym (c .before .same-family .ensures) ∙ w .0 .taken) (sym (w .1 .ensures) ∙ not-false _ (w .2 .left))
-    (c .before .before .before .loop-test .taken) (omega arith) in
+    (at-test .loop-test .taken) (omega arith) in
     (omega arith, omega (arith, w .3), omega (arith, w .3, s, l .inv .2)))
     (λ w.
-    let s = step false _ (sym (c .before .same-family .ensures) ∙ w .0 .left) refl (c .before .before .before .loop-test .taken) (omega arith) in
+    let s = step false _ (sym (c .before .same-family .ensures) ∙ w .0 .left) refl (at-test .loop-test .taken) (omega arith) in
     (omega arith, omega (arith, w .1), omega (arith, w .1, s, l .inv .2))))
     (c .if1 .came)
 

@@ -31,13 +31,14 @@ same-length c = search needs
 
 returns-2 : tie.Need-returns-2
 returns-2 c =
-    let a = c .before .before .before .before .before .args in
-    let end = c .before .before .before .before .cut .result in
+    let at-cut = c .before .before .before .before in
+    let a = at-cut .before .args in
+    let end = at-cut .cut .result in
     let due : length (take (a .count) (a .labels)) ≡ end =
-    cut-length (a .count) end microsMost (a .labels) (c .before .before .before .before .cut .ensures) (omega arith) in
+    cut-length (a .count) end microsMost (a .labels) (at-cut .cut .ensures) (omega arith) in
     labels-written (take (a .count) (a .labels)) (a .out .now) (omega arith) _
     (c .before .write-labels .ensures ∙ ap (λ (l : List ℤ). written l (a .out .now))
-    (cut-take end (a .count) microsMost (a .labels) (c .before .before .before .before .cut .ensures) (omega arith)))
+    (cut-take end (a .count) microsMost (a .labels) (at-cut .cut .ensures) (omega arith)))
 
 pub read-labels-spec : {M : Type 1} → statement M
 read-labels-spec =

@@ -36,14 +36,17 @@ same-family-requires c κs = search needs
 
 returns : tie.Need-returns Inv-loop μ-loop
 returns c =
-    let s = c .before .before .before .before .before in
+    let at-same-family-arg = c .before .before in
+    let at-test = at-same-family-arg .before in
+    let at-loop = at-test .before in
+    let s = at-loop .before in
     let a = s .args in
-    let l = c .before .before .before .before .loop in
+    let l = at-loop .loop in
     let label = toZ w64 (ofZ w64 (a .label)) in
     let here : sameFamily label (getD (a .t1) (l .i) (pos 0)) ≡ true =
-    ap (sameFamily label) (sym (toZ-ofZ (sfits-of {w = w64} (c .before .before .same-family-arg .given)))) ∙ sym (c .before .same-family .ensures)
+    ap (sameFamily label) (sym (toZ-ofZ (sfits-of {w = w64} (at-same-family-arg .same-family-arg .given)))) ∙ sym (c .before .same-family .ensures)
     ∙ c .if1 .taken in
-    sym (any-here (a .«end») (l .i) (a .t1) (sameFamily label) (c .before .before .before .loop-test .taken) (omega arith) here) ∙ l .inv
+    sym (any-here (a .«end») (l .i) (a .t1) (sameFamily label) (at-test .loop-test .taken) (omega arith) here) ∙ l .inv
     ∙ ap (λ (z : ℤ). any (sameFamily z) (rest (a .«end») (a .start) (a .t1))) (toZ-ofZ (s .fits .label))
 
 add-i : tie.Need-add-i Inv-loop μ-loop
@@ -54,14 +57,16 @@ loop-less c = search needs
 
 loop-again : tie.Need-loop-again Inv-loop μ-loop
 loop-again c =
-    let s = c .before .before .before .before .before in
-    let a = s .args in
-    let l = c .before .before .before .before .loop in
+    let at-same-family-arg = c .before .before in
+    let at-test = at-same-family-arg .before in
+    let at-loop = at-test .before in
+    let a = at-loop .before .args in
+    let l = at-loop .loop in
     let label = toZ w64 (ofZ w64 (a .label)) in
     let here : sameFamily label (getD (a .t1) (l .i) (pos 0)) ≡ false =
-    ap (sameFamily label) (sym (toZ-ofZ (sfits-of {w = w64} (c .before .before .same-family-arg .given)))) ∙ sym (c .before .same-family .ensures)
+    ap (sameFamily label) (sym (toZ-ofZ (sfits-of {w = w64} (at-same-family-arg .same-family-arg .given)))) ∙ sym (c .before .same-family .ensures)
     ∙ c .if1 .left in
-    any-next (a .«end») (l .i) (a .t1) (sameFamily label) (c .before .before .before .loop-test .taken) (omega arith) here ∙ l .inv
+    any-next (a .«end») (l .i) (a .t1) (sameFamily label) (at-test .loop-test .taken) (omega arith) here ∙ l .inv
 
 returns-2 : tie.Need-returns-2 Inv-loop μ-loop
 returns-2 c =

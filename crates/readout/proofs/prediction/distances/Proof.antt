@@ -43,7 +43,10 @@ loop-less : tie.Need-loop-less Inv-loop μ-loop
 loop-less c = search needs
 
 loop-again : tie.Need-loop-again Inv-loop μ-loop
-loop-again c = gather-goes (c .before .before .before .before .before .loop .inv) _ (c .before .before .before .before .loop-test .taken) (c .sq-euclidean .ensures)
+loop-again c =
+    let at-test = c .before .before .before .before in
+    let at-loop = at-test .before in
+    gather-goes (at-loop .loop .inv) _ (at-test .loop-test .taken) (c .sq-euclidean .ensures)
 
 returns : tie.Need-returns Inv-loop μ-loop
 returns c = gather-ends (c .before .loop .inv) (c .loop-test .left)

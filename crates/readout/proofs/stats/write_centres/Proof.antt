@@ -35,29 +35,44 @@ array-copy-out-b : tie.Need-array-copy-out-b Inv-loop μ-loop
 array-copy-out-b c = search needs
 
 mul-at : tie.Need-mul-at Inv-loop μ-loop
-mul-at c = omega (arith, few (c .before .before .before .before .loop .i) (c .before .before .before .before .before .before .args .width) (omega arith) (omega arith))
+mul-at c =
+    let at-loop = c .before .before .before .before in
+    let start = at-loop .before .before in
+    omega (arith, few (at-loop .loop .i) (start .args .width) (omega arith) (omega arith))
 
 array-share-prefix-mean : tie.Need-array-share-prefix-mean Inv-loop μ-loop
-array-share-prefix-mean c = mean-room (turn (c .before .before .before .before)) (c .before .before .before .loop-test .taken) _
+array-share-prefix-mean c =
+    let at-test = c .before .before .before in
+    mean-room (turn (at-test .before)) (at-test .loop-test .taken) _
 
 slice-aggregate-write : tie.Need-slice-aggregate-write Inv-loop μ-loop
-slice-aggregate-write c = sym (mean-count (turn (c .before .before .before .before .before)) (c .before .before .before .before .loop-test .taken) _)
+slice-aggregate-write c =
+    let at-test = c .before .before .before .before in
+    sym (mean-count (turn (at-test .before)) (at-test .loop-test .taken) _)
 
 mul-write : tie.Need-mul-write Inv-loop μ-loop
 mul-write c =
-    omega (arith, few (c .before .before .before .before .before .loop .i) (c .before .before .before .before .before .before .before .args .width) (omega arith) (omega arith))
+    let at-loop = c .before .before .before .before .before in
+    let start = at-loop .before .before in
+    omega (arith, few (at-loop .loop .i) (start .args .width) (omega arith) (omega arith))
 
 sub-write : tie.Need-sub-write Inv-loop μ-loop
-sub-write c = omega (arith, turn-room (turn (c .before .before .before .before .before)) (c .before .before .before .before .loop-test .taken))
+sub-write c =
+    let at-test = c .before .before .before .before in
+    omega (arith, turn-room (turn (at-test .before)) (at-test .loop-test .taken))
 
 part-write-start : tie.Need-part-write-start Inv-loop μ-loop
-part-write-start c = omega (arith, turn-room (turn (c .before .before .before .before .before)) (c .before .before .before .before .loop-test .taken))
+part-write-start c =
+    let at-test = c .before .before .before .before in
+    omega (arith, turn-room (turn (at-test .before)) (at-test .loop-test .taken))
 
 part-write-end : tie.Need-part-write-end Inv-loop μ-loop
 part-write-end c = search needs
 
 write-requires : tie.Need-write-requires Inv-loop μ-loop
-write-requires c κs = mean-fits (turn (c .before .before .before .before .before .before)) (c .before .before .before .before .before .loop-test .taken) _
+write-requires c κs =
+    let at-test = c .before .before .before .before .before in
+    mean-fits (turn (at-test .before)) (at-test .loop-test .taken) _
 
 add-i : tie.Need-add-i Inv-loop μ-loop
 add-i c = search needs
@@ -66,11 +81,13 @@ loop-less : tie.Need-loop-less Inv-loop μ-loop
 loop-less c = search needs
 
 loop-again : tie.Need-loop-again Inv-loop μ-loop
-loop-again c = (
-  omega arith,
-  turn-step (turn (c .before .before .before .before .before .before .before .before .before))
-      (c .before .before .before .before .before .before .before .before .loop-test .taken) _ _ (c .before .before .write .ensures),
-)
+loop-again c =
+    let at-write = c .before .before in
+    let at-test = at-write .before .before .before .before .before .before in (
+      omega arith,
+      turn-step (turn (at-test .before))
+          (at-test .loop-test .taken) _ _ (at-write .write .ensures),
+    )
 
 same-length : tie.Need-same-length Inv-loop μ-loop
 same-length c = turn-length (turn (c .before)) (c .before .loop .inv .0)

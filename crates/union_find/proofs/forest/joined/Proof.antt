@@ -43,7 +43,10 @@ shared-slice-read-join-2 : tie.Need-shared-slice-read-join-2 Inv-loop μ-loop
 shared-slice-read-join-2 c = omega arith
 
 join-requires : tie.Need-join-requires Inv-loop μ-loop
-join-requires c κs = (c .before .before .before .loop .inv .0, c .before .before .before .before .before .before .before .before .pre)
+join-requires c κs =
+    let at-loop = c .before .before .before in
+    let start = at-loop .before .before .before .before .before in
+    (at-loop .loop .inv .0, start .pre)
 
 add-k : tie.Need-add-k Inv-loop μ-loop
 add-k c = omega arith
@@ -53,12 +56,15 @@ loop-less c = omega arith
 
 loop-again : tie.Need-loop-again Inv-loop μ-loop
 loop-again c =
-    let a = c .before .before .before .before .before .before .before .before .before in
-    let l = c .before .before .before .before .loop in
+    let at-test = c .before .before .before in
+    let at-loop = at-test .before in
+    let at-cut = at-loop .before .before in
+    let a = at-cut .before .before .before in
+    let l = at-loop .loop in
     let h : l .k < length (a .args .a .now) =
-    omega (arith, c .before .before .before .before .before .before .cut .ensures, c .before .before .before .loop-test .taken) in
+    omega (arith, at-cut .cut .ensures, at-test .loop-test .taken) in
     let g : l .k < length (a .args .b .now) = omega
-    (arith, c .before .before .before .before .before .before .cut .ensures, c .before .before .before .loop-test .taken) in (
+    (arith, at-cut .cut .ensures, at-test .loop-test .taken) in (
       subst Sound (sym (c .join .ensures)) (join-sound (a .args .n) (l .uf) _ (a .pre) (l .inv .0)),
       ap (λ (u : UnionFind). joinAll (a .args .n) u (drop (l .k + 1) (pairsOf (a .args .a .now) (a .args .b .now)))) (c .join .ensures)
           ∙ join-step (a .args .n) (a .args .a .now) (a .args .b .now) (l .k) (l .uf) h g
@@ -68,9 +74,10 @@ loop-again c =
 
 returns : tie.Need-returns Inv-loop μ-loop
 returns c =
-    let a = c .before .before .before .before .before .before .args in
+    let at-cut = c .before .before .before in
+    let a = at-cut .before .before .before .args in
     let l = c .before .loop in
-    sym (join-end (a .n) (a .a .now) (a .b .now) (l .k) (l .uf) (omega (arith, c .before .before .before .cut .ensures))) ∙ l .inv .1
+    sym (join-end (a .n) (a .a .now) (a .b .now) (l .k) (l .uf) (omega (arith, at-cut .cut .ensures))) ∙ l .inv .1
 
 pub joined-spec : {M : Type 1} → statement M
 joined-spec =

@@ -23,8 +23,9 @@ joined-requires c κs = omega arith
 
 loop-holds : tie.Need-loop-holds Inv-loop μ-loop
 loop-holds c =
-    let a = c .before .before .before .before .before .args in
-    seek-start (c .before .before .cut .result) (omega arith) (pairsOf (a .a .now) (a .b .now)) (c .before .joined .result) (c .before .joined .ensures)
+    let at-cut = c .before .before in
+    let a = at-cut .before .before .before .args in
+    seek-start (at-cut .cut .result) (omega arith) (pairsOf (a .a .now) (a .b .now)) (c .before .joined .result) (c .before .joined .ensures)
 
 find-requires : tie.Need-find-requires Inv-loop μ-loop
 find-requires c κs = (c .before .before .loop .inv .ranked, omega arith)
@@ -43,18 +44,22 @@ loop-less c = search needs
 
 loop-again : tie.Need-loop-again Inv-loop μ-loop
 loop-again c =
-    let l = c .before .before .before .loop in
-    seek-next (c .before .before .before .before .before .joined .result .parent) (l .parent) (l .roots) (l .i) (l .inv) (omega arith)
+    let at-loop = c .before .before .before in
+    let at-joined = at-loop .before .before in
+    let l = at-loop .loop in
+    seek-next (at-joined .joined .result .parent) (l .parent) (l .roots) (l .i) (l .inv) (omega arith)
     (c .find .result) (c .find .last .0) (c .find .ensures .0) (c .find .ensures .1)
 
 returns : tie.Need-returns Inv-loop μ-loop
 returns c =
-    let a = c .before .before .before .before .before .before .before .args in
+    let at-joined = c .before .before .before in
+    let at-cut = at-joined .before in
+    let a = at-cut .before .before .before .args in
     let l = c .before .loop in
-    let u = c .before .before .before .joined .result in
+    let u = at-joined .joined .result in
     let e : l .i ≡ places = omega arith in
-    seek-end (a .n) (c .before .before .before .before .cut .result) (c .before .before .before .before .cut .ensures)
-    (pairsOf (a .a .now) (a .b .now)) u (c .before .before .before .joined .ensures) (l .parent) (l .roots)
+    seek-end (a .n) (at-cut .cut .result) (at-cut .cut .ensures)
+    (pairsOf (a .a .now) (a .b .now)) u (at-joined .joined .ensures) (l .parent) (l .roots)
     (subst (Seeking (u .parent) (l .parent) (l .roots)) e (l .inv))
 
 pub roots-spec : {M : Type 1} → statement M

@@ -13,14 +13,18 @@ add-at c = search needs
 
 returns : tie.Need-returns
 returns c =
-    sym (rw (← c .before .before .before .before .before .cut .ensures, lt-ltb _ _ (c .before .before .before .if1 .taken)))
+    let at-if1 = c .before .before .before in
+    let at-cut = at-if1 .before .before in
+    sym (rw (← at-cut .cut .ensures, lt-ltb _ _ (at-if1 .if1 .taken)))
 
 add-t13 : tie.Need-add-t13
 add-t13 c = search needs
 
 returns-2 : tie.Need-returns-2
 returns-2 c =
-    sym (rw (← c .before .before .before .before .before .cut .ensures, le-ltb _ _ (c .before .before .before .if1 .left)))
+    let at-if1 = c .before .before .before in
+    let at-cut = at-if1 .before .before in
+    sym (rw (← at-cut .cut .ensures, le-ltb _ _ (at-if1 .if1 .left)))
 
 pub carried-spec : {M : Type 1} → statement M
 carried-spec = tie.close (tie.spec cut-requires add-at returns add-t13 returns-2)

@@ -13,7 +13,9 @@ new-requires : tie.Need-new-requires
 new-requires c κs = search needs
 
 returns : tie.Need-returns
-returns c = rw (c .before .before .before .first .ensures, c .before .cut .ensures, c .new .ensures)
+returns c =
+    let at-first = c .before .before .before in
+    rw (at-first .first .ensures, c .before .cut .ensures, c .new .ensures)
 
 pub first-spec : {M : Type 1} → statement M
 first-spec = tie.close (tie.spec first-requires cut-requires new-requires returns)

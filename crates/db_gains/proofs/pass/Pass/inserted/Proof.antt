@@ -14,12 +14,15 @@ gained-requires c κs = search needs
 
 returns : tie.Need-returns
 returns c =
-    let a = c .before .before .before .before .before .before .before .before .args in
+    let at-gained = c .before .before in
+    let at-fade = at-gained .before in
+    let at-if1 = at-fade .before in
+    let a = at-if1 .before .before .before .before .args in
     sym (rw (
-      lt-ltb _ _ (c .before .before .before .before .if1 .taken),
+      lt-ltb _ _ (at-if1 .if1 .taken),
       ←
-          (c .before .before .gained .ensures ∙ gain-by (a .lambda) (a .t) (c .before .before .before .fade .result) (a .self .walk .key)
-          (c .before .before .before .fade .ensures .0)),
+          (at-gained .gained .ensures ∙ gain-by (a .lambda) (a .t) (at-fade .fade .result) (a .self .walk .key)
+          (at-fade .fade .ensures .0)),
     ))
 
 returns-2 : tie.Need-returns-2

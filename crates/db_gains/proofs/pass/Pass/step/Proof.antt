@@ -13,14 +13,16 @@ next-requires c κs = search needs
 
 returns : tie.Need-returns
 returns c =
-    let a = c .before .before .before .before .before .args in
-    let turn = c .before .before .before .before .turn in
+    let at-turn = c .before .before .before .before in
+    let a = at-turn .before .args in
+    let turn = at-turn .turn in
     stepped (a .lambda) (a .t) (a .self) (a .l) (a .ids) (a .k) (turn .result) _ (c .next .result) (turn .ensures) (c .before .if1 .taken) (c .next .ensures)
 
 returns-2 : tie.Need-returns-2
 returns-2 c =
-    let a = c .before .before .before .before .args in
-    let turn = c .before .before .before .turn in
+    let at-turn = c .before .before .before in
+    let a = at-turn .before .args in
+    let turn = at-turn .turn in
     stepped (a .lambda) (a .t) (a .self) (a .l) (a .ids) (a .k) (turn .result) _ _ (turn .ensures) (c .if1 .left) refl
 
 pub step-spec : {M : Type 1} → statement M

@@ -22,10 +22,14 @@ add-walk c = search needs
 
 returns-2 : tie.Need-returns-2
 returns-2 c =
-    let a = c .before .before .before .before .before .before .before .before .before .before .before .args in
-    passed-turn (a .lambda) (a .t) (a .self) (a .l) (c .before .before .before .before .before .before .before .before .before .before .if1 .left)
-    (c .before .before .before .before .before .if2 .taken)
-    (sym (c .before .before .before .before .«is-before» .ensures) ∙ c .before .before .before .if3 .taken)
+    let at-if3 = c .before .before .before in
+    let at-is-before = at-if3 .before in
+    let at-if2 = at-is-before .before in
+    let at-if1 = at-if2 .before .before .before .before .before in
+    let a = at-if1 .before .args in
+    passed-turn (a .lambda) (a .t) (a .self) (a .l) (at-if1 .if1 .left)
+    (at-if2 .if2 .taken)
+    (sym (at-is-before .«is-before» .ensures) ∙ at-if3 .if3 .taken)
 
 same-ends-requires : tie.Need-same-ends-requires
 same-ends-requires c κs = search needs
@@ -38,23 +42,32 @@ gained-requires c κs = search needs
 
 returns-3 : tie.Need-returns-3
 returns-3 c =
-    let a = c .before .before .before .before .before .before .before .before .before .before .before .before .before .before .before .args in
+    let at-gained = c .before .before in
+    let at-since = at-gained .before in
+    let at-if4 = at-since .before .before in
+    let at-same-ends = at-if4 .before in
+    let at-if3 = at-same-ends .before in
+    let at-is-before = at-if3 .before in
+    let at-if2 = at-is-before .before in
+    let at-if1 = at-if2 .before .before .before .before .before in
+    let a = at-if1 .before .args in
     gained-turn (a .lambda) (a .t) (a .self) (a .l)
-    (c .before .before .before .before .before .before .before .before .before .before .before .before .before .before .if1 .left)
-    (c .before .before .before .since .result) (c .before .before .gained .result)
-    (c .before .before .before .before .before .before .before .before .before .if2 .taken)
-    (sym (c .before .before .before .before .before .before .before .before .«is-before» .ensures)
-    ∙ c .before .before .before .before .before .before .before .if3 .left)
-    (sym (c .before .before .before .before .before .before .«same-ends» .ensures) ∙ c .before .before .before .before .before .if4 .taken)
-    (c .before .before .before .since .ensures) (c .before .before .gained .ensures)
+    (at-if1 .if1 .left)
+    (at-since .since .result) (at-gained .gained .result)
+    (at-if2 .if2 .taken)
+    (sym (at-is-before .«is-before» .ensures)
+    ∙ at-if3 .if3 .left)
+    (sym (at-same-ends .«same-ends» .ensures) ∙ at-if4 .if4 .taken)
+    (at-since .since .ensures) (at-gained .gained .ensures)
 
 inserted-requires : tie.Need-inserted-requires
 inserted-requires c κs = search needs
 
 returns-4 : tie.Need-returns-4
 returns-4 c =
-    let a = c .before .before .before .before .before .before .before .args in
-    inserted-turn (a .lambda) (a .t) (a .self) (a .l) (c .before .before .before .before .before .before .if1 .left) (c .inserted .result)
+    let at-if1 = c .before .before .before .before .before .before in
+    let a = at-if1 .before .args in
+    inserted-turn (a .lambda) (a .t) (a .self) (a .l) (at-if1 .if1 .left) (c .inserted .result)
     (⊎-elim (λ w. inr (w .0 .taken, sym (w .1 .ensures) ∙ w .2 .left, sym (w .3 .ensures) ∙ w .4 .left)) (λ w. inl (w .left)) (c .before .if2 .came))
     (c .inserted .ensures)
 

@@ -18,9 +18,11 @@ to-requires c κs = search needs
 
 returns : tie.Need-returns
 returns c =
-    let a = c .before .before .before .before .args in
-    next-in (a .ids) (a .t) (a .self) (a .k) (c .before .before .before .cut .result) (c .before .before .cut2 .result)
-    (c .before .before .before .cut .ensures) (c .before .before .cut2 .ensures) (c .to .result) (c .to .ensures) (c .before .if1 .taken)
+    let at-cut2 = c .before .before in
+    let at-cut = at-cut2 .before in
+    let a = at-cut .before .args in
+    next-in (a .ids) (a .t) (a .self) (a .k) (at-cut .cut .result) (at-cut2 .cut2 .result)
+    (at-cut .cut .ensures) (at-cut2 .cut2 .ensures) (c .to .result) (c .to .ensures) (c .before .if1 .taken)
 
 add-to : tie.Need-add-to
 add-to c = search needs
@@ -36,9 +38,11 @@ to-requires-2 c κs = search needs
 
 returns-2 : tie.Need-returns-2
 returns-2 c =
-    let a = c .before .before .before .before .args in
-    next-out (a .ids) (a .t) (a .self) (a .k) (c .before .before .before .cut .result) (c .before .before .cut2 .result)
-    (c .before .before .before .cut .ensures) (c .before .before .cut2 .ensures) (c .to2 .result) (c .to2 .ensures) (c .before .if1 .left)
+    let at-cut2 = c .before .before in
+    let at-cut = at-cut2 .before in
+    let a = at-cut .before .args in
+    next-out (a .ids) (a .t) (a .self) (a .k) (at-cut .cut .result) (at-cut2 .cut2 .result)
+    (at-cut .cut .ensures) (at-cut2 .cut2 .ensures) (c .to2 .result) (c .to2 .ensures) (c .before .if1 .left)
 
 pub next-spec : {M : Type 1} → statement M
 next-spec =

@@ -42,21 +42,27 @@ is-before-requires c κs = search needs
 
 returns : tie.Need-returns
 returns c =
-    let a = c .before .before .before .before .before .before .before .before .args in
-    let e : c .before .before .before .«key-of» .result ≡ keyOf (idAt (a .t2) (a .i)) (idAt (a .t2) (a .j)) (a .t) =
-    c .before .before .before .«key-of» .ensures
+    let at-key-of = c .before .before .before in
+    let at-cut2 = at-key-of .before .before in
+    let at-cut = at-cut2 .before .before in
+    let a = at-cut .before .args in
+    let e : at-key-of .«key-of» .result ≡ keyOf (idAt (a .t2) (a .i)) (idAt (a .t2) (a .j)) (a .t) =
+    at-key-of .«key-of» .ensures
     ∙ ap₂ (λ (x y : ℕ). keyOf (getD (a .t2) x (record { 0 = 0 })) (getD (a .t2) y (record { 0 = 0 })) (a .t))
-    (c .before .before .before .before .before .before .before .cut .ensures) (c .before .before .before .before .before .cut2 .ensures) in
-    walked (a .t2) (a .t) (a .self) (a .i) (a .j) (c .before .before .before .«key-of» .result) true e (sym (c .before .«is-before» .ensures) ∙ c .if1 .taken)
+    (at-cut .cut .ensures) (at-cut2 .cut2 .ensures) in
+    walked (a .t2) (a .t) (a .self) (a .i) (a .j) (at-key-of .«key-of» .result) true e (sym (c .before .«is-before» .ensures) ∙ c .if1 .taken)
 
 returns-2 : tie.Need-returns-2
 returns-2 c =
-    let a = c .before .before .before .before .before .before .before .before .args in
-    let e : c .before .before .before .«key-of» .result ≡ keyOf (idAt (a .t2) (a .i)) (idAt (a .t2) (a .j)) (a .t) =
-    c .before .before .before .«key-of» .ensures
+    let at-key-of = c .before .before .before in
+    let at-cut2 = at-key-of .before .before in
+    let at-cut = at-cut2 .before .before in
+    let a = at-cut .before .args in
+    let e : at-key-of .«key-of» .result ≡ keyOf (idAt (a .t2) (a .i)) (idAt (a .t2) (a .j)) (a .t) =
+    at-key-of .«key-of» .ensures
     ∙ ap₂ (λ (x y : ℕ). keyOf (getD (a .t2) x (record { 0 = 0 })) (getD (a .t2) y (record { 0 = 0 })) (a .t))
-    (c .before .before .before .before .before .before .before .cut .ensures) (c .before .before .before .before .before .cut2 .ensures) in
-    walked (a .t2) (a .t) (a .self) (a .i) (a .j) (c .before .before .before .«key-of» .result) false e (sym (c .before .«is-before» .ensures) ∙ c .if1 .left)
+    (at-cut .cut .ensures) (at-cut2 .cut2 .ensures) in
+    walked (a .t2) (a .t) (a .self) (a .i) (a .j) (at-key-of .«key-of» .result) false e (sym (c .before .«is-before» .ensures) ∙ c .if1 .left)
 
 pub to-spec : {M : Type 1} → statement M
 to-spec =

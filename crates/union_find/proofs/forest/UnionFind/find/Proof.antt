@@ -42,10 +42,16 @@ element-write-parent : tie.Need-element-write-parent Inv-loop μ-loop
 element-write-parent c = search needs
 
 loop-less : tie.Need-loop-less Inv-loop μ-loop
-loop-less c = turn-less (c .before .before .before .before .loop .inv) (c .before .before .if1 .taken)
+loop-less c =
+    let at-if1 = c .before .before in
+    let at-loop = at-if1 .before .before in
+    turn-less (at-loop .loop .inv) (at-if1 .if1 .taken)
 
 loop-again : tie.Need-loop-again Inv-loop μ-loop
-loop-again c = turn-next (c .before .before .before .before .loop .inv) (c .before .before .if1 .taken)
+loop-again c =
+    let at-if1 = c .before .before in
+    let at-loop = at-if1 .before .before in
+    turn-next (at-loop .loop .inv) (at-if1 .if1 .taken)
 
 returns : tie.Need-returns Inv-loop μ-loop
 returns c =

@@ -46,10 +46,14 @@ returns-2 : tie.Need-returns-2
 returns-2 c = sym (link-less _ _ _ (c .before .before .before .if1 .left) (c .if2 .taken))
 
 returns-3 : tie.Need-returns-3
-returns-3 c = sym (link-equal _ _ _ (c .before .before .before .before .if1 .left) (c .if3 .taken))
+returns-3 c =
+    let at-if1 = c .before .before .before .before in
+    sym (link-equal _ _ _ (at-if1 .if1 .left) (c .if3 .taken))
 
 returns-4 : tie.Need-returns-4
-returns-4 c = sym (link-more _ _ _ (c .before .before .before .before .if1 .left) (omega arith))
+returns-4 c =
+    let at-if1 = c .before .before .before .before in
+    sym (link-more _ _ _ (at-if1 .if1 .left) (omega arith))
 
 pub link-spec : {M : Type 1} → statement M
 link-spec =

@@ -21,8 +21,9 @@ find-requires-2 c κs =
 
 link-requires : tie.Need-link-requires
 link-requires c κs =
-    let a = c .before .before .before .before in
-    let f = c .before .before .find in
+    let at-find = c .before .before in
+    let a = at-find .before .before in
+    let f = at-find .find in
     let g = c .find2 in
     let w = found-well (a .args .t1 .parent) (a .args .t1 .rank) (a .pre .0) (a .args .a) (a .pre .1) (f .result) (f .last .0) (f .ensures .0)
     (f .ensures .1) in (
@@ -33,8 +34,9 @@ link-requires c κs =
 
 returns : tie.Need-returns
 returns c =
-    let a = c .before .before .before .before .before .args in
-    let f = c .before .before .before .find in
+    let at-find = c .before .before .before in
+    let a = at-find .before .before .args in
+    let f = at-find .find in
     let g = c .before .find2 in
     c .link .ensures ∙ unioned (a .t1) (a .a) (a .b) (f .result) (g .result) (f .last .0) (g .last .0) (f .ensures .0) (f .ensures .1)
     (g .ensures .0) (g .ensures .1)
