@@ -17,6 +17,7 @@ use Rattle.lists.specs.Retain.{without}
 use Rattle.lists.specs.Laws.Rest.{take-set}
 use Rattle.adwin.proofs.Classes.{with-class, classed-set, classed-length, classed-getD}
 
+-- what a place past the end reads as
 abbrev pub nothing : Classed
 nothing = with-class 0 (record { size = nan; total = nan; variance = nan })
 

@@ -11,6 +11,7 @@ use Rattle.adwin.specs.View.{classed}
 use Rattle.lists.specs.Rest.{rest}
 use Rattle.lists.specs.Laws.Shift.{shift-step}
 
+-- a bucket with its class
 abbrev pub with-class : ℕ → Bucket → Classed
 with-class c b = record { class = c; bucket = b }
 

@@ -82,6 +82,7 @@ pub some-held : (d : Float) (s : Sums) (n : ℕ) (l : List Classed) → mustDrop
 some-held d s zero l h = absurd (true≢false (sym h ∙ none-drop d s))
 some-held d s (suc n) l h = omega arith
 
+-- whether the window must drop its oldest bucket
 abbrev pub mustDropIn : Window → Bool
 mustDropIn w = mustDrop (w .delta) (w .sums) (bucketsOf (w .held))
 

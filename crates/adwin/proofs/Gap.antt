@@ -16,6 +16,7 @@ use Rattle.lists.specs.Rest.{rest}
 use Rattle.lists.specs.Laws.Shift.{shift-start, shift-end}
 use Rattle.adwin.proofs.Classes.{classed-length, removed-both}
 
+-- all places with their classes, past the count too
 abbrev pub rowOf : Adwin → List Classed
 rowOf s = classed (s .classes) (s .buckets)
 
@@ -46,6 +47,7 @@ closing-starts a p m b c l r h = record {
   left = shift-start (a .count) p (rowOf a) (omega arith) (omega (arith, classed-length (a .classes) (a .buckets) (c ∙ sym b)));
 }
 
+-- the bucket at q + 1 moved down to q
 abbrev pub movedDown : Adwin → ℕ → Bucket → Adwin
 movedDown s q d = record {
   delta = s .delta;

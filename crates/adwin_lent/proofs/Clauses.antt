@@ -25,6 +25,7 @@ Refused h v w = numberOf v ≡ 8 → w ≡ h
 abbrev Ignored : Adwin → Float → Adwin → Type 0
 Ignored h n w = isFinite n ≡ false → w ≡ h
 
+-- all three together
 abbrev pub Claim : Adwin → Float → Verdict → Adwin → Type 0
 Claim h n v w = Said h n v w × (Refused h v w × Ignored h n w)
 

@@ -30,6 +30,7 @@ module _ (lambda floor t : Float) (ms : List DbMicro) where
   stays-among l =
       ap₂ (λ (a b : Bool). a && b && not (lt (fadedLink lambda t l) floor)) (among-held ms (l .lo)) (among-held ms (l .hi))
 
+  -- the links that stay are document 01's
   pub retain-among : (ls : List Link) → retain (staysAmong lambda floor t (map idOf ms)) ls ≡ retain (linkStays lambda floor t ms) ls
   unfolding retain
   retain-among [] = refl

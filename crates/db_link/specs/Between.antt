@@ -20,6 +20,7 @@ connectivityAmong ids a b mean lambda t ls =
     firstNo ((isAmong ids a && isAmong ids b && not (eqb (a .0) (b .0)), refuses 12 []) ∷ [])
     (gives (ofLink (λ (l : Link). fadedLink lambda t l ⊘ mean) (absent (pairOf a b .0) (pairOf a b .1) t) ls))
 
+-- what is told of a pair is document 01's connectivity
 pub connectivity-view :
     (s : State) (a b : MicroId) →
     connectivityAmong (map idOf (s .held .micros)) a b ((storedWeight (s .held .micros) a ⊕ storedWeight (s .held .micros) b) ⊘ two)

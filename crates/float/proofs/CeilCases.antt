@@ -16,6 +16,7 @@ use Rattle.float.specs.Ceil.{ceilOf}
 use Rattle.float.specs.Laws.Whole.{whole-is}
 use Rattle.float.specs.Laws.Compare.{lt-neg, lt-values, same}
 
+-- 2^53: from here on every double is whole
 abbrev pub big : Float
 big = fin false 1 (pos 53)
 

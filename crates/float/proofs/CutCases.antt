@@ -106,9 +106,11 @@ whole-far m (pos j) f h =
 abbrev pub fieldOf : Float → ℕ
 fieldOf y = toBits binary64 (neg y) / 0x10_0000_0000_0000
 
+-- the size's whole part, by its bits
 abbrev pub shiftOf : Float → ℕ
 shiftOf y = (toBits binary64 (neg y) % 0x10_0000_0000_0000 + 0x10_0000_0000_0000) / 2 ^ (1075 - fieldOf y)
 
+-- how `cut` goes by the exponent's field
 pub record Cases (y : Float) : Type 0 where
   pub no-nan : T (not (isNan (neg y)))
   pub below : fieldOf y < 1023 → cutOf y ≡ fin true 0 (pos 0)

@@ -36,6 +36,7 @@ module _ (w : Window) (x : Float) where
       go true e true h false i = c e h i
       go true e true h true i = d e h i
 
+  -- a value that isn't finite changes nothing
   pub not-finite : isFinite x ≡ false → quiet w ≡ updateOf w x
   not-finite p =
       update-cases (λ (o : Outcome) (l : List Classed). quiet w ≡ o) (λ e. refl) (λ e h. absurd (true≢false (sym e ∙ p)))
@@ -53,11 +54,13 @@ module _ (w : Window) (x : Float) where
           update-cases (λ (o : Outcome) (l : List Classed). quiet (grown w x) ≡ o) (λ e. absurd (true≢false (sym p ∙ e)))
           (λ e h. absurd (true≢false (sym q ∙ h))) (λ e h i. refl) (λ e h i. absurd (true≢false (sym i ∙ r)))
 
+      -- on every 32nd value the cut search follows
       pub is-due : due w ≡ true → shrunk (grown w x) ≡ updateOf w x
       is-due r =
           update-cases (λ (o : Outcome) (l : List Classed). shrunk (grown w x) ≡ o) (λ e. absurd (true≢false (sym p ∙ e)))
           (λ e h. absurd (true≢false (sym q ∙ h))) (λ e h i. absurd (true≢false (sym r ∙ i))) (λ e h i. refl)
 
+-- room means fewer than 65,535 values taken
 pub room-taken : (w : Window) → hasRoom w ≡ true → w .taken < limit
 room-taken w h = go (ltb (w .taken) limit) refl h
   where
@@ -70,6 +73,7 @@ pub record Takes (w : Window) (o : Outcome) : Type 0 where
   pub more : w .taken + cond (o .alarm) 1 0 ≤ o .window .taken
   pub within : o .window .taken ≤ limit
 
+-- so does every update, and no more than 65,535 are taken
 pub update-takes : (w : Window) (x : Float) → w .taken ≤ limit → Takes w (updateOf w x)
 unfolding grown shrunk
 update-takes w x h =

@@ -18,6 +18,7 @@ pub record Split (held : List Classed) (r : Searched) : Type 0 where
   pub parts : held ≡ r .dropped ++ r .kept
   pub width : r .sums .width ≡ whole (valuesIn (r .kept))
 
+-- a search keeps the order, and its width stays exact
 pub splits :
     (d : Float) (s : Sums) (held : List Classed) → s .width ≡ whole (valuesIn held) → Sized held → valuesIn held ≤ limit →
     Split held (searchOf d s held)

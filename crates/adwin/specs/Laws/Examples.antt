@@ -18,6 +18,7 @@ sizesOf w = map (λ (c : Classed). c .bucket .size) (w .held)
 abbrev pub seven : (s : ℕ → Bool) (m : ℕ → ℕ) (e : ℕ → ℤ) → List Float
 seven s m e = map (λ (i : ℕ). fin (s i) (m i) (e i)) (0 ∷ 1 ∷ 2 ∷ 3 ∷ 4 ∷ 5 ∷ 6 ∷ [])
 
+-- the seven values as buckets, whatever they are
 pub seven-values :
     (delta : Float) (s : ℕ → Bool) (m : ℕ → ℕ) (e : ℕ → ℤ) →
     sizesOf (runOf (newOf delta) (seven s m e)) ≡ two ∷ one ∷ one ∷ one ∷ one ∷ one ∷ []

@@ -40,6 +40,7 @@ rises n (suc j) = omega (arith, rises n j, one-more (n + suc j) (n + j) (omega a
 in-class : (c k : ℕ) → k < cap → fewest (cap * c + k + 1) ≡ fewest (cap * c + k) + 2 ^ c
 in-class c k h = let d : (cap * c + k) / cap ≡ c = omega arith in one-more (cap * c + k + 1) (cap * c + k) refl ∙ ap (λ (i : ℕ). fewest (cap * c + k) + 2 ^ i) d
 
+-- stacked buckets hold at least as many values as `fewest` says
 pub holds-fewest : {c k : ℕ} (l : List Classed) → k ≤ cap → Stacked c k l → fewest (cap * c + k + length l) ≤ fewest (cap * c + k) + valuesIn l
 holds-fewest {c} {k} [] h none = omega (arith, at (cap * c + k + 0) (cap * c + k) (omega arith))
 holds-fewest {c} {k} (b ∷ l) h (same e g s) =

@@ -62,6 +62,7 @@ not-refused w x h k =
 ran : (delta : Float) (xs : List Float) → Run (newOf delta) xs (runOf (newOf delta) xs)
 ran delta xs = run (newOf delta) xs (sound-new delta)
 
+-- a window that started empty is told from its values
 pub told-from-history : (delta : Float) (xs : List Float) → Told delta xs (runOf (newOf delta) xs)
 told-from-history delta xs =
     let w = runOf (newOf delta) xs in
@@ -82,6 +83,7 @@ told-from-history delta xs =
       width = omega (arith, r .values);
     }
 
+-- and so is its next update
 pub next-update : (delta : Float) (xs : List Float) (x : Float) → Next xs (runOf (newOf delta) xs) x
 next-update delta xs x =
     let w = runOf (newOf delta) xs in

@@ -27,6 +27,7 @@ class-low c h =
 doubled : (c : ℕ) → 2 ^ (c + 1) ≡ 2 ^ c + 2 ^ c
 doubled c = ap (λ (n : ℕ). 2 ^ n) (add-one c) ∙ pow-suc 2 c ∙ omega arith
 
+-- what the window holds is exact in a double
 pub small : (n : ℕ) → n ≤ limit → n ≤ 2 ^ 53
 small n h = omega arith
 
@@ -112,6 +113,7 @@ pub record Pushed (held r : List Classed) : Type 0 where
   pub sized : Sized r
   pub values : valuesIn r ≡ valuesIn held + 1
 
+-- a value more: the buckets stay stacked and sized, and stand for one value more
 pub pushed : (held : List Classed) (x : Float) → Stacked 0 0 (reverse held) → Sized held → valuesIn held + 1 ≤ limit → Pushed held (pushOf held (singleOf x))
 unfolding pushOf ofBits ofInt
 pushed held x s z m =

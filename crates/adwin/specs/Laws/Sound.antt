@@ -31,6 +31,7 @@ pub record Sound (w : Window) : Type 0 where
   pub within : w .taken ≤ limit
   pub since : w .sinceCheck ≡ w .taken % interval
 
+-- an empty window is sound
 pub sound-new : (d : Float) → Sound (newOf d)
 unfolding ofBits ofInt
 sound-new d = record { stacked = none; sized = tt; width = refl; fits = omega arith; within = omega arith; since = refl }
@@ -41,6 +42,7 @@ place-left w s =
     let v : valuesIn (reverse (w .held)) ≤ limit = omega (arith, values-reverse (w .held), s .fits, s .within) in
     omega (arith, length-reverse (w .held), not-full (reverse (w .held)) (s .stacked) v)
 
+-- the places never run out before the values do
 pub room-is : (w : Window) → Sound w → hasRoom w ≡ ltb (w .taken) limit
 room-is w s = ap (λ (b : Bool). ltb (w .taken) limit && b) (lt-ltb (length (w .held)) places (place-left w s)) ∙ go (ltb (w .taken) limit)
   where
@@ -122,6 +124,7 @@ module _ (w : Window) (x : Float) (s : Sound w) where
         rings = refl;
       }
 
+  -- one update of a sound window
   pub step : Step w x (updateOf w x) (droppedBy w x)
   step = update-cases w x (Step w x) untaken refused unsearched searched
 
@@ -132,6 +135,7 @@ pub record Run (w : Window) (xs : List Float) (u : Window) : Type 0 where
   pub sized : Sized (droppedIn w xs)
   pub values : valuesIn (u .held) + valuesIn (droppedIn w xs) + w .taken ≡ valuesIn (w .held) + u .taken
 
+-- a list of updates
 pub run : (w : Window) (xs : List Float) → Sound w → Run w xs (runOf w xs)
 unfolding runOf finiteIn droppedIn
 run w [] s = record { sound = s; taken = omega (arith, s .within); sized = tt; values = omega arith }

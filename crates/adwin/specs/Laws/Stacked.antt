@@ -16,6 +16,7 @@ pub data Stacked : ℕ → ℕ → List Classed → Type 0 where
   same : {c k : ℕ} {b : Classed} {l : List Classed} → b .class ≡ c → k < cap → Stacked c (suc k) l → Stacked c k (b ∷ l)
   next : {c k : ℕ} {b : Classed} {l : List Classed} → c < b .class → Stacked (b .class) 1 l → Stacked c k (b ∷ l)
 
+-- the newest of a stacked list are stacked
 pub stacked-front : {c k : ℕ} (l m : List Classed) → Stacked c k (l ++ m) → Stacked c k l
 stacked-front [] m s = none
 stacked-front (b ∷ l) m (same e h s) = same e h (stacked-front l m s)
@@ -26,23 +27,28 @@ pub values-append : (l m : List Classed) → valuesIn (l ++ m) ≡ valuesIn l + 
 values-append [] m = omega arith
 values-append (b ∷ l) m = let e : valuesIn (l ++ m) ≡ valuesIn l + valuesIn m = values-append l m in omega arith
 
+-- the order of buckets does not change what they stand for
 pub values-reverse : (l : List Classed) → valuesIn (reverse l) ≡ valuesIn l
 values-reverse [] = refl
 values-reverse (b ∷ l) =
     ap valuesIn (reverse-cons b l) ∙ values-append (reverse l) (b ∷ []) ∙ (let e : valuesIn (reverse l) ≡ valuesIn l = values-reverse l in omega arith)
 
+-- sized lists one after the other
 pub sized-append : (l m : List Classed) → Sized l → Sized m → Sized (l ++ m)
 sized-append [] m p q = q
 sized-append (b ∷ l) m p q = (p .0, sized-append l m (p .1) q)
 
+-- the later part of a sized list
 pub sized-back : (l m : List Classed) → Sized (l ++ m) → Sized m
 sized-back [] m p = p
 sized-back (b ∷ l) m p = sized-back l m (p .1)
 
+-- the earlier part of a sized list
 pub sized-front : (l m : List Classed) → Sized (l ++ m) → Sized l
 sized-front [] m p = tt
 sized-front (b ∷ l) m p = (p .0, sized-front l m (p .1))
 
+-- a sized list turned round
 pub sized-reverse : (l : List Classed) → Sized l → Sized (reverse l)
 sized-reverse [] p = tt
 sized-reverse (b ∷ l) p = rw reverse-cons (sized-append (reverse l) (b ∷ []) (sized-reverse l (p .1)) (p .0, tt))
@@ -89,6 +95,7 @@ anywhere {c} {k} e (b ∷ l) (next g s) h =
     by-cases (ℕ-discrete (b .class) e) (λ u. rw (eq-eqb (b .class) e u)
     (let v : countOf e l + 1 ≤ cap = subst (λ (j : ℕ). countOf j l + 1 ≤ cap) u o in omega arith)) (λ u. rw (ne-eqb (b .class) e u) (omega arith))
 
+-- a stacked list has at most 6 of a class
 pub at-most-cap : (l : List Classed) → Stacked 0 0 (reverse l) → (c : ℕ) → countOf c l ≤ cap
 at-most-cap l s c = omega (arith, count-reverse c l, anywhere c (reverse l) s (omega arith))
 
@@ -99,6 +106,7 @@ last-highest [] b (next h s) = (omega arith, tt)
 last-highest {c} (x ∷ l) b (same {k = k} e h s) = let r = last-highest l b s in (r .0, (omega (arith, r .0), r .1))
 last-highest (x ∷ l) b (next h s) = let r = last-highest l b s in (omega (arith, r .0), (r .0, r .1))
 
+-- its classes never rise towards the newest
 pub never-rises : (l : List Classed) → Stacked 0 0 (reverse l) → NeverRising l
 never-rises [] s = tt
 never-rises (b ∷ l) s =

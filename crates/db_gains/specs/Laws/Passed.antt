@@ -58,10 +58,12 @@ before-on l k j e f =
     (λ p. ⊎-elim (λ q. inl (omega (arith, p .0, q))) (λ q. inr (p .0 ∙ sym (q .0), omega (arith, p .1, q .1))) (no-is x y c d f))
     (yes-is a b c d e))
 
+-- links passed for k are passed for a key that is not before it
 pub passed-on : (k j : Link) (ls : List Link) → before j k ≡ false → Passed k ls → Passed j ls
 passed-on k j [] f h = tt
 passed-on k j (l ∷ ls) f h = (before-on l k j (h .0) f, passed-on k j ls f (h .1))
 
+-- one more link before the key
 pub passed-one : (k : Link) (ls : List Link) (l : Link) → Passed k ls → before l k ≡ true → Passed k (ls ++ l ∷ [])
 passed-one k [] l h e = (e, tt)
 passed-one k (m ∷ ls) l h e = (h .0, passed-one k ls l (h .1) e)
@@ -78,10 +80,12 @@ module _ (lambda t : Float) (room : Bool) (k : Link) where
   gain-passed [] rest h = refl
   gain-passed (l ∷ ls) rest h = rw (h .0) (ap (λ (r : List Link). l ∷ r) (gain-passed ls rest (h .1)))
 
+  -- the link with the key's ends gains
   pub gain-same : (l : Link) (rest : List Link) → before l k ≡ false → sameEnds l k ≡ true → gainIn lambda t room k (l ∷ rest) ≡ gains lambda t l ∷ rest
   unfolding gainIn
   gain-same l rest e f = rw (e, f)
 
+  -- where the key has no link, a new one comes first, if there is room
   pub gain-after : (rest : List Link) → Absent k rest → gainIn lambda t room k rest ≡ cond room (gains lambda t k ∷ rest) rest
   unfolding gainIn
   gain-after [] h = refl

@@ -51,6 +51,7 @@ Passing lambda t ids k goal ls s =
 abbrev pub toGo : (ids : List MicroId) (k : ℕ) → Pass → ℕ
 toGo ids k s = pairsLeft ids k (s .walk) * (linksMost + linksMost + 2) + cond (s .carries) (linksMost - s .at) (linksMost + 1 + (linksMost - s .walk .p))
 
+-- before the first turn
 pub starts :
     (lambda t : Float) (ids : List MicroId) (many k : ℕ) (ls : List Link) (count : ℕ) (s : Pass) →
     length ids ≡ microsMost → k ≡ min many microsMost → length ls ≡ linksMost → s ≡ passFrom ids count lambda t →
@@ -246,6 +247,7 @@ module _ (lambda t : Float) (ids : List MicroId) (k : ℕ) (goal ls : List Link)
       (carried right z q (p .0) (p .1) (eq ∙ ap (λ (c : Bool). min (cond c (s .at) (s .walk .p)) (linksMost - 1)) (p .0)
       ∙ small (s .at) (omega (arith, p .1 .place, p .1 .free))))
 
+  -- a turn keeps what holds, and the measure falls
   pub stepped :
       Passing lambda t ids k goal ls s → s .walk .j < k → (z : Link) (q : ℕ) → q ≡ placeOf s →
       (r : Step) → r ≡ stepOf lambda t ids k s (getD ls q z) → Kept (set ls q (r .link)) (r .pass)
@@ -261,6 +263,7 @@ module _ (lambda t : Float) (ids : List MicroId) (k : ℕ) (goal ls : List Link)
       go true e = both .1 e
       go false e = both .0 e
 
+  -- no pair is left: every gain is made
   pub ends : Passing lambda t ids k goal ls s → k ≤ s .walk .j → take (s .count) ls ≡ goal
   ends (right, inl p) h = end (p .1) h
   ends (right, inr p) h = absurd (omega (arith, p .1 .live, h))

@@ -121,6 +121,7 @@ pub absent-at :
     Absent k (rest n p ls)
 absent-at k n p ls z h fits e f = subst (Absent k) (sym (rest-step n p ls z h fits)) (e, f)
 
+-- past the last link the key has none
 pub absent-end : (k : Link) (n p : ℕ) (ls : List Link) → n ≤ p → Absent k (rest n p ls)
 absent-end k n p ls h = subst (Absent k) (sym (rest-end n p ls h)) tt
 
@@ -128,6 +129,7 @@ module _ {lambda t : Float} {ids : List MicroId} {k : ℕ} {goal ls : List Link}
   fits-links : n ≤ length ls
   fits-links = omega (arith, s .size, s .count)
 
+  -- the link at p stands before the key
   pub step-before :
       (z : Link) → w .p < n → before (getD ls (w .p) z) (w .key) ≡ true →
       Walking lambda t ids k goal ls n (record { i = w .i; j = w .j; p = w .p + 1; key = w .key })
@@ -215,6 +217,7 @@ module _ {lambda t : Float} {ids : List MicroId} {k : ℕ} {goal ls : List Link}
         (advance-to ls′ n′ (w .i + 1) (w .i + 1 + 1) size count place same gain (omega arith) (inr refl)
         (next-row ids k (s .among) (s .all) (w .i) (w .j) low live g)))
 
+    -- the link at p has the key's ends
     pub step-same :
         (z : Link) (v : Walk) → v ≡ nextOf ids k t w → w .p < n → before (getD ls (w .p) z) (w .key) ≡ false → sameEnds (getD ls (w .p) z) (w .key) ≡ true →
         Walking lambda t ids k goal (set ls (w .p) (gains lambda t (getD ls (w .p) z))) n v
@@ -228,6 +231,7 @@ module _ {lambda t : Float} {ids : List MicroId} {k : ℕ} {goal ls : List Link}
         ∙ ap (gainIn lambda t room (w .key)) (sym (rest-step n (w .p) ls z h fits-links)))
         ∙ sym (gain-at room))
 
+    -- the key's link is inserted at p
     pub step-after :
         (ls′ : List Link) (v : Walk) → v ≡ nextOf ids k t w → Absent (w .key) (rest n (w .p) ls) → n < linksMost → length ls′ ≡ linksMost →
         take (n + 1) ls′ ≡ take (w .p) ls ++ gains lambda t (w .key) ∷ rest n (w .p) ls → Walking lambda t ids k goal ls′ (n + 1) v
@@ -241,6 +245,7 @@ module _ {lambda t : Float} {ids : List MicroId} {k : ℕ} {goal ls : List Link}
         (put ∙ ap (λ (q : List Link). take (w .p) ls ++ q) (sym (gain-after lambda t true (w .key) (rest n (w .p) ls) e))
         ∙ sym (gain-at true) ∙ ap (λ (r : Bool). gainIn lambda t r (w .key) (take n ls)) (sym o))
 
+    -- the list is full
     pub step-full : (v : Walk) → v ≡ nextOf ids k t w → Absent (w .key) (rest n (w .p) ls) → linksMost ≤ n → Walking lambda t ids k goal ls n v
     step-full v next e full =
         let o : hasRoom (take n ls) ≡ false = le-ltb (length (take n ls)) linksMost (omega (arith, length-take-le n ls fits-links)) in
@@ -249,6 +254,7 @@ module _ {lambda t : Float} {ids : List MicroId} {k : ℕ} {goal ls : List Link}
         ∙ ap (λ (q : List Link). take (w .p) ls ++ q) (sym (gain-after lambda t false (w .key) (rest n (w .p) ls) e))
         ∙ sym (gain-at false) ∙ ap (λ (r : Bool). gainIn lambda t r (w .key) (take n ls)) (sym o))
 
+    -- the next pair leaves fewer
     pub less-next : (v : Walk) → v ≡ nextOf ids k t w → pairsLeft ids k v < pairsLeft ids k w
     less-next v next =
         by-cases (decLt (w .j + 1) k)
@@ -265,6 +271,7 @@ module _ {lambda t : Float} {ids : List MicroId} {k : ℕ} {goal ls : List Link}
             let e : length (pairsFrom k ids (w .i) (w .j)) ≡ suc (length (pairsFrom k ids i j)) = ap length pairs in
             omega (arith, e)
 
+  -- no pair is left
   pub end : k ≤ w .j → take n ls ≡ goal
   end h =
       let e : w .j ≡ w .i + 1 = ⊎-elim (λ (g : w .j < k). absurd (omega arith)) (λ (q : w .j ≡ w .i + 1). q) (s .row) in

@@ -14,11 +14,13 @@ use Rattle.model.specs.DbInsert.{idOf}
 use Rattle.model.specs.DbCluster.{placeOf, strongOnes, isDense, joinsOf}
 use Rattle.db_joins.specs.Joined.{placeAmong, joinsBy, joinedBy}
 
+-- a place among creation numbers is one among micro-clusters
 pub place-view : (ms : List DbMicro) (id : MicroId) → placeAmong (map idOf ms) id ≡ placeOf ms id
 unfolding placeAmong placeOf
 place-view [] id = refl
 place-view (m ∷ ms) id = ap (λ (q : ℕ). cond (eqb (m .id .0) (id .0)) 0 (suc q)) (place-view ms id)
 
+-- the pairs joined are document 01's
 pub joined-view :
     (s : State) (ls : List Link) →
     joinedBy (map idOf (s .held .micros)) (strongOnes s) (s .params .settings .lambda) (s .t)

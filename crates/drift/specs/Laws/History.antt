@@ -84,6 +84,7 @@ watched m (o ∷ l) h =
       window = ap (λ (j : Monitor). j .window) e ∙ i .window ∙ run-given (m .window) (m .radius) (o .nearest) (valuesSeen (m .radius) l);
     }
 
+-- a fresh monitor's alarms, its last alarm and its window are told from its observations
 pub heard-from-history : (radius : Float) (l : List Seen) → Heard radius l (watchOf (newOf radius) l)
 heard-from-history radius l =
     let f : 0 + length (ringsIn (window.newOf delta) radius l) ≤ limit = few-rings (window.newOf delta) radius l (omega arith) in

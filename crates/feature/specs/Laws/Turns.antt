@@ -22,6 +22,7 @@ module _ (n i : ℕ) (a b : List Float) (s : Float) where
   unfolding sumFrom
   sum-step h la lb = rw (rest-step n i a nan, rest-step n i b nan)
 
+  -- no coordinate is left
   pub sum-end : n ≤ i → sumFrom s (rest n i a) (rest n i b) ≡ s
   unfolding sumFrom
   sum-end h = rw (rest-end n i a)
@@ -38,6 +39,7 @@ module _ (n i : ℕ) (ms xs : List Float) (h : i < n) (lm : n ≤ length ms) (lx
       let j : i < suc i = omega arith in
       rw (rest-step n i xs nan, drop-cons ms i nan, ← e, add-one, take-suc-set ms i v, drop-set-lt (suc i) ms i v, append-snoc (take i ms) v)
 
+  -- one coordinate more, its mean moved
   pub gaps-step :
       (s : Float) →
       sumFrom (s ⊕ (getD xs i nan ⊖ getD ms i nan) ⊗ (getD xs i nan ⊖ getD ms i nan)) (rest n (i + 1) xs) (drop (i + 1) (set ms i v))
@@ -57,6 +59,7 @@ module _ (n i : ℕ) (ms xs : List Float) (h : n ≤ i) where
   pub moved-end : (f : Float) → take i ms ++ moved f (drop i ms) (rest n i xs) ≡ ms
   moved-end f = rw (rest-end n i xs) (ap (λ (l : List Float). take i ms ++ l) (moved-none f (drop i ms)) ∙ take-append-drop i ms)
 
+  -- no coordinate is left
   pub gaps-end : (s : Float) → sumFrom s (rest n i xs) (drop i ms) ≡ s
   unfolding sumFrom
   gaps-end s = rw (rest-end n i xs)

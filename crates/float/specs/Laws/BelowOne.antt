@@ -157,5 +157,6 @@ not-nought (fin true m e) h =
     let p = le→parts true m e true 1 (negℤ (pos 34)) h in
     rw (ne-eqb (m * up e * 1) (0 * down e) (λ q. omega (arith, down-pos e)))
 
+-- two to a y of at most −2^−32 is not 1
 pub less-one-some : (y : Float) → T (le y (minusOf 32)) → eq (twoTo y ⊖ one) nought ≡ false
 less-one-some y h = not-nought (twoTo y ⊖ one) (less-one (below-one y h))

@@ -53,6 +53,7 @@ neg-within (fin false m e) h = (refl, h .1)
 plus-within : (a c : ℕ) → 0 < c → a ≤ c → Within false (round binary64 false a c)
 plus-within a c C h = within-of-le (round binary64 false a c) (plus-round binary64 a c) (rw one-is at (round-mono binary64 a c 1 1 C (lit< tt) (omega arith)))
 
+-- rounding keeps a size of at most 1
 pub round-within : (s : Bool) (a c : ℕ) → 0 < c → a ≤ c → Within s (round binary64 s a c)
 round-within false a c C h = plus-within a c C h
 round-within true a c C h = rw (round-neg binary64 a c) (neg-within (round binary64 false a c) (plus-within a c C h))
@@ -74,6 +75,7 @@ down-of-within nan h = absurd h
 down-of-within (inf s) h = absurd h
 down-of-within (fin s m e) h = (inl (h .0), h .1)
 
+-- rounding keeps what is from −1 to 0
 pub round-down : (s : Bool) (a c : ℕ) → 0 < c → a ≤ c → (s ≡ true) ⊎ (a ≡ 0) → Down (round binary64 s a c)
 round-down true a c C h k = down-of-within (round binary64 true a c) (round-within true a c C h)
 round-down false a c C h (inl e) = absurd (true≢false (sym e))
@@ -83,6 +85,7 @@ still : (s : Bool) (m u v : ℕ) → (s ≡ true) ⊎ (m ≡ 0) → (s ≡ true)
 still s m u v (inl e) = inl e
 still s m u v (inr e) = inr (rw e (omega arith))
 
+-- a product of what is from −1 to 0 and what is from 0 to 1
 pub mul-down : (z h : Float) → Down z → Within false h → Down (mul binary64 z h)
 mul-down nan h p q = absurd p
 mul-down (inf s) h p q = absurd p
@@ -93,6 +96,7 @@ mul-down (fin s m e) (fin false n d) p q =
     rw (mul-fin binary64 s m e false n d, unlike-false s)
     (round-down s (m * up e * (n * up d)) (down e * down d) (mul-pos (down-pos e) (down-pos d)) (mul-le-mul (p .1) (q .1)) (still s m (up e) (n * up d) (p .0)))
 
+-- a product of two that are from 0 to 1
 pub mul-within : (z h : Float) → Within false z → Within false h → Within false (mul binary64 z h)
 mul-within nan h p q = absurd p
 mul-within (inf s) h p q = absurd p
@@ -144,6 +148,7 @@ step-within z h n p N k q =
     add-down (div binary64 (mul binary64 z h) (ofInt binary64 (pos n)))
     (div-down (mul binary64 z h) (ofInt binary64 (pos n)) n (mul-down z h p q) N (round-whole binary64 false n k))
 
+-- the series' steps stay from 0 to 1
 pub steps-within : (z h : Float) (n : ℕ) → Down z → n ≤ 2 ^ 53 → Within false h → Within false (steps z n h)
 unfolding steps
 steps-within z h zero p k q = q
@@ -207,6 +212,7 @@ above-least (fin s m e) p h k =
     subst T (le-is (whole 1023) (whole 1022) 1023 1022 (whole-is 1023 (lit≤ tt)) (whole-is 1022 (lit≤ tt)))
     (le-trans-all (whole 1023) (fin s m e) (whole 1022) h (le-of-not-lt (whole 1022) (fin s m e) (is-fin false 511 (pos 1)) (is-fin s m e) k))
 
+-- a cut number that is not below −1022
 pub no-less : (c : ℕ) → lt (neg (whole c)) least ≡ false → c ≤ 1022
 unfolding ofInt
 no-less c e =
@@ -214,6 +220,7 @@ no-less c e =
     above-least (whole c) (plus-round binary64 c 1) (round-mono binary64 1023 1 c 1 (lit< tt) (lit< tt) (omega arith))
     (subst (λ (b : Bool). T (not b)) (sym (sym (lt-neg (whole c) (whole 1022)) ∙ e)) tt))
 
+-- the series of what a cut leaves is from 0 to 1
 pub steps-of-rest : (m : ℕ) (e : ℤ) → m * up e / down e ≤ 1022 → Within false (steps ((fin true m e ⊖ neg (whole (m * up e / down e))) ⊗ L) 20 one)
 unfolding ofInt ofBits
 steps-of-rest m e h =
@@ -255,10 +262,12 @@ pub nan-not-below : lt nan nought ≡ true → ⊥
 unfolding lt
 nan-not-below p = true≢false (sym p)
 
+-- a size with the sign plus is not below 0
 pub plus-not-below : (m : ℕ) (e : ℤ) → lt (fin false m e) nought ≡ true → ⊥
 unfolding lt ofBits
 plus-not-below m e p = let h : m * up e * 1 < 0 * down e = ltb→lt (m * up e * 1) (0 * down e) (subst T (sym p) tt) in omega arith
 
+-- minus infinity is below −1022
 pub inf-not-least : (s : Bool) → lt (inf s) nought ≡ true → lt (cutOf (inf s)) least ≡ false → ⊥
 unfolding lt ofBits cutOf neg ofInt round
 inf-not-least true p q = true≢false q
@@ -291,5 +300,6 @@ within-le (fin false m e) p =
       le-of-values (fin false m e) one (m * up e) (down e) 1 1 (down-pos e) (lit< tt) (refl, refl) (refl, refl) (omega arith),
     )
 
+-- two to any y is from 0 to 1
 pub between-0-and-1 : (y : Float) → T (le nought (twoTo y)) × T (le (twoTo y) one)
 between-0-and-1 y = within-le (twoTo y) (twoTo-within y)

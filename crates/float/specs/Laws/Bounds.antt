@@ -63,6 +63,7 @@ module _ (u a b n c : ℕ) (U : 0 < u) (C : 0 < c)
       between u a b (round binary64 false a u) (round binary64 false n c) (round binary64 false b u) low high (plus-round binary64 n c)
       (round-mono binary64 a u n c U C h) (round-mono binary64 n c b u C U k)
 
+  -- rounding keeps bounds that are doubles themselves
   pub round-between : (s : Bool) → Bounded u a b n c → In s u a b (round binary64 s n c)
   round-between true h = rw (round-neg binary64 n c) (neg-in (round-plus h))
   round-between false h = round-plus h
@@ -126,16 +127,19 @@ module _ (j : ℕ) (J : T (leb j 1074)) where
       (lt-of-lt-of-le (shl-lt 53 (1074 - j) A) (pow-mono {i = 53 + (1074 - j)} {j = 2098} (omega arith)))
       (ap (λ (n : ℕ). a * n) (ap (λ (n : ℕ). 2 ^ n) (sym (back 1074 j l)) ∙ pow-add 2 (1074 - j) j) ∙ sym (mul-assoc a (2 ^ (1074 - j)) (2 ^ j)))
 
+  -- rounding keeps bounds in units of 2^−j
   pub round-in : (s : Bool) (a b n c : ℕ) → T (ltb b (2 ^ 53)) → 0 < c → Bounded (2 ^ j) a b n c → In s (2 ^ j) a b (round binary64 s n c)
   round-in s a b n c B C h =
       let k : b < 2 ^ 53 = ltb→lt b (2 ^ 53) B in
       let l : a ≤ b = le-of-mul-le-mul-right {k = c} (le-trans (h .0) (h .1)) C in
       round-between (2 ^ j) a b n c (pow-pos j) C (bound-is a (lt-of-le-of-lt l k)) (bound-is b k) s h
 
+  -- 1 in these units
   pub one-in : In false (2 ^ j) (2 ^ j) (2 ^ j) one
   unfolding ofBits
   one-in = sized {u = 2 ^ j} {a = 2 ^ j} {b = 2 ^ j} 1 (pos 0) (omega arith) (omega arith)
 
+  -- a whole number in these units
   pub whole-in : (n a b : ℕ) → n ≤ 2 ^ 53 → a ≤ n * 2 ^ j → n * 2 ^ j ≤ b → In false (2 ^ j) a b (whole n)
   whole-in n a b N A B = go (whole n) (whole-is n N)
     where
@@ -161,6 +165,7 @@ module _ (j : ℕ) (J : T (leb j 1074)) where
       (times (2 ^ j) a b c d (m * up e) (down e) (n * up g) (down g) (pow-pos j) (l, h) (l′, h′) p q
       (leb→le (p * 2 ^ j) (a * c) (k .0)) (leb→le (b * d) (q * 2 ^ j) (k .1))))
 
+  -- a quotient's bounds
   pub div-in :
       {s t : Bool} {a b c d : ℕ} {x y : Float} (p q : ℕ) → T (ltb 0 c) → T (leb (p * d) (a * 2 ^ j) && leb (b * 2 ^ j) (q * c) && ltb q (2 ^ 53)) →
       In s (2 ^ j) a b x → In t (2 ^ j) c d y → In (unlike s t) (2 ^ j) p q (x ⊘ y)
@@ -175,6 +180,7 @@ module _ (j : ℕ) (J : T (leb j 1074)) where
       (over (2 ^ j) a b c d (m * up e) (down e) (suc n * up g) (down g) (pow-pos j) (l, h) (l′, h′) p q
       (ltb→lt 0 c K) (leb→le (p * d) (a * 2 ^ j) (k .0)) (leb→le (b * 2 ^ j) (q * c) (k .1))))
 
+  -- a sum's bounds
   pub add-in :
       {s : Bool} {a b c d : ℕ} {x y : Float} → T (ltb (b + d) (2 ^ 53)) → In s (2 ^ j) a b x → In s (2 ^ j) c d y →
       In s (2 ^ j) (a + c) (b + d) (x ⊕ y)
@@ -194,6 +200,7 @@ module _ (j : ℕ) (J : T (leb j 1074)) where
       rw (add-fin binary64 false m e true n g, sum-away binary64 false (m * up e * down g) (n * up g * down e) (down e * down g) (f .0))
       (round-in false p q (m * up e * down g - n * up g * down e) (down e * down g) (k .2) (mul-pos (down-pos e) (down-pos g)) (f .1))
 
+  -- a difference's bounds
   pub sub-in :
       {a b c d : ℕ} {x y : Float} (p q : ℕ) → T (leb (p + d) a && leb b (q + c) && ltb q (2 ^ 53)) → In false (2 ^ j) a b x → In false (2 ^ j) c d y →
       In false (2 ^ j) p q (x ⊖ y)

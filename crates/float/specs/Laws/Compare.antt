@@ -30,6 +30,7 @@ lt-neg (fin true m e) (fin false n d) = refl
 lt-neg (fin false m e) (fin true n d) = ap (ltb 0) (add-comm (m * up e * down d) (n * up d * down e))
 lt-neg (fin false m e) (fin false n d) = refl
 
+-- tests that hold together are one
 pub same : (a b : Bool) → (T a → T b) → (T b → T a) → a ≡ b
 same true true p q = refl
 same true false p q = absurd (p tt)

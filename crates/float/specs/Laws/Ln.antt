@@ -96,16 +96,19 @@ lnBy-in e h i =
     (mul-in 4 tt 0 22 tt (mul-in 4 tt 0 16 tt two-in s)
     (series-in 21 (lit≤ tt) (mul-in 4 tt 0 4 tt s s) nought-in))
 
+-- what is bounded by 1 from below is at least 1
 pub above-one : {b : ℕ} {x : Float} → In false 1 1 b x → T (le one x)
 unfolding ofBits
 above-one (sized m e l h) = parts→le false 1 (pos 0) false m e (omega arith)
 
+-- ln from 1 to 2^53, in sixteenths
 pub ln-in : {v : Float} → In false 1 1 (2 ^ 53) v → In false 16 0 658 (lnOf v)
 unfolding lnOf
 ln-in {v} (sized m e l h) =
     let i : In false 1 1 (2 ^ 53) v = sized m e l h in
     rw (is-true (le one v) (above-one i)) (lnBy-in (exponentOf v) (exponent-le i) (mantissa-in i))
 
+-- log2 from 1 to 2^53, in sixteenths
 pub log2-in : {v : Float} → In false 1 1 (2 ^ 53) v → In false 16 0 1024 (log2Of v)
 unfolding log2Of
 log2-in i = div-in 4 tt 0 1024 tt tt (ln-in i) L-in

@@ -10,6 +10,7 @@ use lib.Ieee.Fits.{round-is}
 use lib.Ieee.Order.{kept, drop}
 use lib.Ieee.Bits.{cond-no}
 
+-- less or equal, as the comparison spells it
 pub le-or : (a b : ℕ) → T (ltb a b || (eqb a b && true)) → a ≤ b
 le-or a b t = go (ltb a b) (eqb a b) (ltb→lt a b) (eqb→eq a b) t
   where
@@ -28,6 +29,7 @@ neg-units f q k = go (ltb (q * 2 ^ k) (2 ^ (low f + suc (emax f)))) q
     go true (suc q) = refl
     go false q = refl
 
+-- rounding does not look at the sign
 pub round-neg : (f : Format) (a c : ℕ) → round f true a c ≡ neg (round f false a c)
 round-neg f a c = round-is f true a c ∙ neg-units f (kept (prec f) (a * 2 ^ low f) c) (drop (prec f) (a * 2 ^ low f) c) ∙ ap neg (sym (round-is f false a c))
 
@@ -46,6 +48,7 @@ plus-units f q k = go (ltb (q * 2 ^ k) (2 ^ (low f + suc (emax f)))) q
     go true (suc q) = refl
     go false q = refl
 
+-- what is rounded with the sign plus has it
 pub plus-round : (f : Format) (a c : ℕ) → Plus (round f false a c)
 plus-round f a c = rw (round-is f false a c) (plus-units f (kept (prec f) (a * 2 ^ low f) c) (drop (prec f) (a * 2 ^ low f) c))
 
@@ -56,6 +59,7 @@ pub mul-fin :
 unfolding mul
 mul-fin f s m e t n d = refl
 
+-- a quotient of finite ones
 pub div-fin :
     (f : Format) (s : Bool) (m : ℕ) (e : ℤ) (t : Bool) (n : ℕ) (d : ℤ) →
     div f (fin s m e) (fin t (suc n) d) ≡ round f (unlike s t) (m * up e * down d) (suc n * up d * down e)
@@ -63,6 +67,7 @@ unfolding div
 div-fin f s m e t n d =
     cond-no (eqb (suc n) 0) (cond (eqb m 0) nan (inf (unlike s t))) (round f (unlike s t) (m * up e * down d) (suc n * up d * down e)) (rw eqb·suc-zero tt)
 
+-- a sum of finite ones
 pub add-fin :
     (f : Format) (s : Bool) (m : ℕ) (e : ℤ) (t : Bool) (n : ℕ) (d : ℤ) →
     add f (fin s m e) (fin t n d) ≡ sum f s (m * up e * down d) t (n * up d * down e) (down e * down d)
@@ -75,11 +80,13 @@ unfolding sum
 sum-away f true a b c h = cond-no (ltb a b) (round f false (b - a) c) (round f (ltb b a) (a - b) c) (not-T (ltb a b) (λ t. not-le-of-lt (ltb→lt a b t) h))
 sum-away f false a b c h = cond-no (ltb a b) (round f true (b - a) c) (round f false (a - b) c) (not-T (ltb a b) (λ t. not-le-of-lt (ltb→lt a b t) h))
 
+-- a sum of one sign
 pub sum-same : (f : Format) (s : Bool) (a b c : ℕ) → sum f s a s b c ≡ round f s (a + b) c
 unfolding sum
 sum-same f true a b c = refl
 sum-same f false a b c = refl
 
+-- a sign against plus
 pub unlike-false : (s : Bool) → unlike s false ≡ s
 unlike-false true = refl
 unlike-false false = refl
@@ -91,12 +98,14 @@ add-nan f nan = refl
 add-nan f (inf s) = refl
 add-nan f (fin s m e) = refl
 
+-- NaN stays in a product
 pub mul-nan : (f : Format) (x : Float) → mul f x nan ≡ nan
 unfolding mul
 mul-nan f nan = refl
 mul-nan f (inf s) = refl
 mul-nan f (fin s m e) = refl
 
+-- NaN stays in a quotient
 pub div-nan : (f : Format) (x : Float) → div f x nan ≡ nan
 unfolding div
 div-nan f nan = refl

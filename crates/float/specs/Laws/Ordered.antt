@@ -118,11 +118,13 @@ turn s a c t b d h = let k = P-mul s a d in let l = Q-mul t b c in let m = P-mul
 turn-back : (s : Bool) (a c : ℕ) (t : Bool) (b d : ℕ) → Below (P s a) (Q s a) c (P t b) (Q t b) d → Le s (a * d) t (b * c)
 turn-back s a c t b d h = let k = P-mul s a d in let l = Q-mul t b c in let m = P-mul t b c in let n = Q-mul s a d in omega arith
 
+-- an order of doubles in sizes, by their sides
 pub le→parts :
     (s : Bool) (m : ℕ) (e : ℤ) (t : Bool) (n : ℕ) (d : ℤ) → T (le (fin s m e) (fin t n d)) →
     Below (P s (m * up e)) (Q s (m * up e)) (down e) (P t (n * up d)) (Q t (n * up d)) (down d)
 le→parts s m e t n d h = turn s (m * up e) (down e) t (n * up d) (down d) (le-out s (m * up e * down d) t (n * up d * down e) (subst T (le-fin s m e t n d) h))
 
+-- and back
 pub parts→le :
     (s : Bool) (m : ℕ) (e : ℤ) (t : Bool) (n : ℕ) (d : ℤ) →
     Below (P s (m * up e)) (Q s (m * up e)) (down e) (P t (n * up d)) (Q t (n * up d)) (down d) →
@@ -179,6 +181,7 @@ le-trans-all (fin s m e) (fin t n d) (fin u l g) h k =
     (below-trans (P s (m * up e)) (Q s (m * up e)) (down e) (P t (n * up d)) (Q t (n * up d)) (down d) (P u (l * up g)) (Q u (l * up g)) (down g) (down-pos d)
     (le→parts s m e t n d h) (le→parts t n d u l g k))
 
+-- every number is at most itself
 pub le-refl-all : (x : Float) → (x ≡ nan → ⊥) → T (le x x)
 unfolding le
 le-refl-all nan h = absurd (h refl)
@@ -194,6 +197,7 @@ minus-parts false a = (refl, refl)
 swap : (p q c p' q' c' u v u' v' : ℕ) → u ≡ q → v ≡ p → u' ≡ q' → v' ≡ p' → Below p q c p' q' c' → Below u' v' c' u v c
 swap p q c p' q' c' u v u' v' a b d e h = rw (a, b, d, e) (omega arith)
 
+-- negation turns the order round
 pub le-neg : (x y : Float) → T (le x y) → T (le (neg y) (neg x))
 unfolding le neg
 le-neg nan y h = absurd h
@@ -245,6 +249,7 @@ none (suc a) d D h = absurd (let k : 0 < suc a * d = mul-pos (omega arith) D in 
 zeros : (f : Format) (a c b d : ℕ) → 0 < c → 0 < d → a ≡ 0 → b ≡ 0 → T (le (round f false a c) (round f true b d))
 zeros f a c b d C D x y = rw (x, y, zero-round f false c C, zero-round f true d D) (unfold le in tt)
 
+-- rounding keeps the order, sign and all
 pub round-mono-signed :
     (f : Format) (s : Bool) (a c : ℕ) (t : Bool) (b d : ℕ) → 0 < c → 0 < d → Below (P s a) (Q s a) c (P t b) (Q t b) d →
     T (le (round f s a c) (round f t b d))
@@ -327,6 +332,7 @@ add-parts p q c p' q' c' r t k r' t' k' X Y X₂ Y₂ h l E E' =
 pub data Finite : Float → Type 0 where
   is-fin : (s : Bool) (m : ℕ) (e : ℤ) → Finite (fin s m e)
 
+-- a finite double has digits
 pub finite-view : (x : Float) → T (finite x) → Finite x
 finite-view nan t = absurd t
 finite-view (inf s) t = absurd t
@@ -338,6 +344,7 @@ sum-parts :
     P s a * d + P t b * c + Q (z .sign) (z .size) ≡ Q s a * d + Q t b * c + P (z .sign) (z .size)
 sum-parts f s a c t b d z = let h = z .parts in let k = P-mul s a d in let l = P-mul t b c in let m = Q-mul s a d in let n = Q-mul t b c in omega arith
 
+-- sums grow with both
 pub add-mono : (f : Format) {x x' y y' : Float} → Finite x → Finite x' → Finite y → Finite y' → T (le x x') → T (le y y') → T (le (add f x y) (add f x' y'))
 add-mono f (is-fin s m e) (is-fin s' m' e') (is-fin t n d) (is-fin t' n' d') h k =
     let z = sum-is f s (m * up e * down d) t (n * up d * down e) (down e * down d) in
@@ -355,10 +362,12 @@ neg-finite : {x : Float} → Finite x → Finite (neg x)
 unfolding neg
 neg-finite (is-fin s m e) = is-fin (not s) m e
 
+-- a difference is a sum
 pub sub-opened : (f : Format) (x y : Float) → sub f x y ≡ add f x (neg y)
 unfolding sub
 sub-opened f x y = refl
 
+-- differences grow with the first and fall with the second
 pub sub-mono : (f : Format) {x x' y y' : Float} → Finite x → Finite x' → Finite y → Finite y' → T (le x x') → T (le y' y) → T (le (sub f x y) (sub f x' y'))
 sub-mono f {x} {x'} {y} {y'} a b c d h k = rw (sub-opened f x y, sub-opened f x' y') (add-mono f a b (neg-finite c) (neg-finite d) h (le-neg y' y k))
 
@@ -367,6 +376,7 @@ scale-parts : (p q c p' q' c' B k : ℕ) → Below p q c p' q' c' → Below (p *
 scale-parts p q c p' q' c' B k h =
     simp (mul-comm, mul-left-comm, mul-assoc) (simp (mul-add, mul-comm, mul-left-comm, mul-assoc) at (mul-le-mul-right (B * k) h))
 
+-- zeros are level, whatever their signs
 pub zero-le-zero : (s t : Bool) → T (le (fin s 0 (pos 0)) (fin t 0 (pos 0)))
 unfolding le
 zero-le-zero true true = tt
@@ -383,6 +393,7 @@ by-minus-zero f u a c u' a' c' b C C' e =
 minus-zero : (n : ℕ) (d : ℤ) → T (le (fin false 0 (pos 0)) (fin true n d)) → n * up d ≡ 0
 minus-zero n d k = let h = le→parts false 0 (pos 0) true n d k in omega arith
 
+-- products with what is at least 0 grow with the other
 pub mul-mono : (f : Format) {x x' y : Float} → Finite x → Finite x' → Finite y → T (le x x') → T (le nought y) → T (le (mul f x y) (mul f x' y))
 unfolding ofBits
 mul-mono f (is-fin s m e) (is-fin s' m' e') (is-fin false n d) h k =
@@ -404,6 +415,7 @@ above-zero : (d : ℤ) → T (lt (fin false 0 (pos 0)) (fin false 0 d)) → ⊥
 unfolding lt
 above-zero d k = let h : 0 * down d < 0 * up d * 1 = ltb→lt (0 * down d) (0 * up d * 1) k in omega arith
 
+-- quotients by what is above 0 grow with the first
 pub div-mono : (f : Format) {x x' y : Float} → Finite x → Finite x' → Finite y → T (le x x') → T (lt nought y) → T (le (div f x y) (div f x' y))
 unfolding ofBits
 div-mono f (is-fin s m e) (is-fin s' m' e') (is-fin true n d) h k = absurd (above-minus n d k)
@@ -435,6 +447,7 @@ lt-fin : (s : Bool) (m : ℕ) (e : ℤ) (t : Bool) (n : ℕ) (d : ℤ) → lt (f
 unfolding lt
 lt-fin s m e t n d = refl
 
+-- of finite ones, what is not below is at least
 pub le-of-not-lt : (x y : Float) → Finite x → Finite y → T (not (lt x y)) → T (le y x)
 le-of-not-lt x y (is-fin s m e) (is-fin t n d) h =
     subst T (sym (le-fin t n d s m e)) (le-in t (n * up d * down e) s (m * up e * down d)

@@ -20,6 +20,7 @@ use Rattle.float.specs.Rounded.{_⊕_, _⊖_, nought, one, whole, Is}
 use Rattle.float.specs.Laws.Opened.{add-fin, sum-same, sum-away, mul-fin}
 use Rattle.float.specs.Laws.Compare.{same}
 
+-- a whole number up to 2^53 is exact
 pub whole-is : (n : ℕ) → n ≤ 2 ^ 53 → Is (whole n) n
 unfolding ofInt
 whole-is n h = round-whole binary64 false n h
@@ -35,6 +36,7 @@ size m e n D h = ap (λ (k : ℕ). k * D) (sym (mul-one (m * up e)) ∙ h) ∙ m
 size' : (m : ℕ) (e : ℤ) (n : ℕ) (D : ℕ) → m * up e * 1 ≡ n * down e → m * up e * D ≡ n * (D * down e)
 size' m e n D h = size m e n D h ∙ ap (λ (k : ℕ). n * k) (mul-comm (down e) D)
 
+-- sums are those of the numbers
 pub add-is : (x y : Float) (n k : ℕ) → Is x n → Is y k → add binary64 x y ≡ whole (n + k)
 add-is nan y n k p q = absurd p
 add-is (inf s) y n k p q = absurd p
@@ -47,6 +49,7 @@ add-is (fin false m e) (fin false l d) n k p q =
     ∙ rounded (n + k) (m * up e * down d + l * up d * down e) (down e * down d) (mul-pos (down-pos e) (down-pos d))
     (let a = size m e n (down d) (p .1) in let b = size' l d k (down e) (q .1) in let c = add-mul n k (down e * down d) in omega arith)
 
+-- so with whole numbers
 pub add-whole : (n k : ℕ) → n ≤ 2 ^ 53 → k ≤ 2 ^ 53 → whole n ⊕ whole k ≡ whole (n + k)
 add-whole n k h l = add-is (whole n) (whole k) n k (whole-is n h) (whole-is k l)
 
@@ -59,6 +62,7 @@ sub-opened : (f : Format) (m : ℕ) (e : ℤ) (l : ℕ) (d : ℤ) → sub f (fin
 unfolding sub
 sub-opened f m e l d = refl
 
+-- differences are those of the numbers
 pub sub-is : (x y : Float) (n k : ℕ) → k ≤ n → Is x n → Is y k → sub binary64 x y ≡ whole (n - k)
 sub-is nan y n k g p q = absurd p
 sub-is (inf s) y n k g p q = absurd p
@@ -76,9 +80,11 @@ sub-is (fin false m e) (fin false l d) n k g p q =
     ∙ sum-away binary64 false (m * up e * down d) (l * up d * down e) (down e * down d) (omega arith)
     ∙ rounded (n - k) (m * up e * down d - l * up d * down e) (down e * down d) (mul-pos (down-pos e) (down-pos d)) (omega arith)
 
+-- so with whole numbers
 pub sub-whole : (n k : ℕ) → n ≤ 2 ^ 53 → k ≤ n → whole n ⊖ whole k ≡ whole (n - k)
 sub-whole n k h g = sub-is (whole n) (whole k) n k g (whole-is n h) (whole-is k (le-trans g h))
 
+-- products are those of the numbers
 pub mul-is : (x y : Float) (n k : ℕ) → Is x n → Is y k → mul binary64 x y ≡ whole (n * k)
 mul-is nan y n k p q = absurd p
 mul-is (inf s) y n k p q = absurd p
@@ -98,6 +104,7 @@ ltb-scaled n k c C =
     same (ltb (n * c) (k * c)) (ltb n k) (λ t. lt→ltb n k (lt-of-mul-lt-mul-right c (ltb→lt (n * c) (k * c) t)))
     (λ t. lt→ltb (n * c) (k * c) (mul-lt-mul-of-pos-right (ltb→lt n k t) C))
 
+-- less is that of the numbers
 pub lt-is : (x y : Float) (n k : ℕ) → Is x n → Is y k → lt x y ≡ ltb n k
 unfolding lt
 lt-is nan y n k p q = absurd p
@@ -118,6 +125,7 @@ and-true : (b : Bool) → (b && true) ≡ b
 and-true true = refl
 and-true false = refl
 
+-- equal is that of the numbers
 pub eq-is : (x y : Float) (n k : ℕ) → Is x n → Is y k → eq x y ≡ eqb n k
 unfolding eq
 eq-is nan y n k p q = absurd p
@@ -153,6 +161,7 @@ le-opened : (x y : Float) → le x y ≡ (lt x y || eq x y)
 unfolding le
 le-opened x y = refl
 
+-- at most is that of the numbers
 pub le-is : (x y : Float) (n k : ℕ) → Is x n → Is y k → le x y ≡ leb n k
 le-is x y n k p q = le-opened x y ∙ rw (lt-is x y n k p q, eq-is x y n k p q) (lt-or-eq n k)
 
@@ -166,6 +175,7 @@ rem-opened :
 unfolding rem
 rem-opened m e l d = cond-no (eqb (suc l) 0) nan (round binary64 false (m * up e * down d % (suc l * up d * down e)) (down e * down d)) (rw eqb·suc-zero tt)
 
+-- remainders are those of the numbers
 pub rem-is : (x y : Float) (n k : ℕ) → 0 < k → Is x n → Is y k → rem binary64 x y ≡ whole (n % k)
 rem-is nan y n k K p q = absurd p
 rem-is (inf s) y n k K p q = absurd p

@@ -29,6 +29,7 @@ module _ (v : ℕ) (roots : List ℕ) (i : ℕ) (l : i < length roots) (sum w : 
   sum-pass : getD roots i 0 ≢ v → sumFrom sum v (drop i roots) (w ∷ ws) ≡ sumFrom sum v (drop (suc i) roots) ws
   sum-pass e = sum-step ∙ ap (λ (t : Bool). sumFrom (cond t (add binary64 sum w) sum) v (drop (suc i) roots) ws) (ne-eqb (getD roots i 0) v e)
 
+-- no weight is left
 pub sum-none : (sum : Float) (v : ℕ) (rs : List ℕ) → sumFrom sum v rs [] ≡ sum
 unfolding sumFrom
 sum-none sum v [] = refl

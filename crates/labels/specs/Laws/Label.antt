@@ -63,6 +63,7 @@ pub meet-old : (us : List ℕ) (v : ℕ) → Met us v → meet us v ≡ us
 unfolding meet
 meet-old us v h = rw (lt-ltb (placeIn v us) (length us) h)
 
+-- a new root goes to the end of those met
 pub meet-new : (us : List ℕ) (v : ℕ) → length us ≤ placeIn v us → meet us v ≡ us ++ (v ∷ [])
 unfolding meet
 meet-new us v h = rw (le-ltb (placeIn v us) (length us) h)
@@ -139,6 +140,7 @@ label-inside us (b ∷ bs) (r ∷ rs) zero l h = rw (h, rest .1) (
     stays : placeIn r (meet us r ++ rest .0) ≡ placeIn r (meet us r)
     stays = place-append r (meet us r) (rest .0) (m .0)
 
+-- each place of the mask gets a label
 pub labels-length : (us : List ℕ) (bs : List Bool) (rs : List ℕ) → length bs ≤ length rs → length (labelsFrom us bs rs) ≡ length bs
 unfolding labelsFrom
 labels-length us [] rs l = refl
@@ -190,6 +192,7 @@ pub record LabelsTell (n : ℕ) (es : List (ℕ × ℕ)) (mask : List Bool) (lab
   -- labels count from 0 by first member: each smaller one stands before
   pub fromZero : (i k m : ℕ) → i < n → labelAt labels i ≡ pos k → m < k → (j : ℕ) × (j < i) × (labelAt labels j ≡ pos m)
 
+-- the labels after the pairs of the first n were joined
 pub labels-tell : (n : ℕ) → n ≤ places → (es : List (ℕ × ℕ)) (mask : List Bool) → length mask ≡ n → LabelsTell n es mask (labelsOf mask (rootsOf n es))
 unfolding labelsOf
 labels-tell n hn es mask size =

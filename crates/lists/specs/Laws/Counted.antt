@@ -23,6 +23,7 @@ module _ {A B : Type 0} {f : A → B} {m n k : ℕ} {l : List A} {out : List B} 
   pub gather-starts : k ≡ min n m → length l ≡ m → length out ≡ m → Gathered f m n k l out 0
   gather-starts e h o = record { cut = e; places = h; room = o; most = omega arith; whole = ap (map f) (cut-start k n m l e h) }
 
+  -- one element more is gathered
   pub gather-goes : {i : ℕ} {v : B} (g : Gathered f m n k l out i) (d : A) → i < k → v ≡ f (getD l i d) → Gathered f m n k l (set out i v) (i + 1)
   gather-goes {i} {v} g d h e =
       record {
@@ -33,6 +34,7 @@ module _ {A B : Type 0} {f : A → B} {m n k : ℕ} {l : List A} {out : List B} 
         whole = gather-step f k i l out d v h (omega arith) (omega arith) e ∙ g .whole;
       }
 
+  -- all are gathered
   pub gather-ends : {i : ℕ} (g : Gathered f m n k l out i) → k ≤ i → take n out ≡ map f (take n l)
   gather-ends {i} g h =
       let e : i ≡ k = omega arith in
@@ -65,6 +67,7 @@ module _ {A : Type 0} {p : A → Bool} {m n k : ℕ} {l₀ : List A} where
           whole = retain-take p k i j l d h (omega (arith, g .cut, g .places)) (getD l i d) (g .few) refl (sym v ∙ t) ∙ g .whole;
         })
 
+    -- an element that p refuses is passed over
     pub keep-drops : (d : A) (b : Bool) (l′ : List A) (j′ : ℕ) → i < k → b ≡ p (getD l i d) → b ≡ false → l′ ≡ l → j′ ≡ j → Kept p m n k l₀ l′ (i + 1) j′
     keep-drops d b l′ j′ h v t el ej =
         rw (el, ej)
@@ -76,6 +79,7 @@ module _ {A : Type 0} {p : A → Bool} {m n k : ℕ} {l₀ : List A} where
           whole = retain-drop p k i j l d h (omega (arith, g .cut, g .places)) (sym v ∙ t) ∙ g .whole;
         })
 
+    -- all that p keeps stand at the front
     pub keep-ends : k ≤ i → take j l ≡ retain p (take n l₀)
     keep-ends h = sym (retain-end p k i j l h) ∙ g .whole
 
@@ -83,5 +87,6 @@ module _ {A : Type 0} {p : A → Bool} {m n k : ℕ} {l₀ : List A} where
     pub kept-fit : j ≤ m
     kept-fit = omega (arith, g .cut, g .most, g .few)
 
+    -- as many are kept as the count says
     pub kept-length : j ≡ length (take j l)
     kept-length = sym (length-take-le j l (omega (arith, kept-fit, g .places)))

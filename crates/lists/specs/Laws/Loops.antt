@@ -17,6 +17,7 @@ module _ {ℓ} {A : Type ℓ} where
     pub fold-step : (d : A) → i < n → n ≤ length l → foldl f s (rest n i l) ≡ foldl f (f s (getD l i d)) (rest n (i + 1) l)
     fold-step d h k = rw (rest-step n i l d)
 
+    -- nothing is left to fold
     pub fold-end : n ≤ i → foldl f s (rest n i l) ≡ s
     fold-end h = rw (rest-end n i l)
 
@@ -31,10 +32,12 @@ module _ {ℓ} {A : Type ℓ} where
         let b : j < i + 1 = omega arith in
         rw (rest-step n i l d, ← e, t, rest-set n (i + 1) l j v, add-one, take-suc-set l j v, append-snoc (take j l) v)
 
+    -- an element that p refuses is passed over
     pub retain-drop : p (getD l i d) ≡ false → take j l ++ retain p (rest n (i + 1) l) ≡ take j l ++ retain p (rest n i l)
     unfolding retain
     retain-drop t = rw (rest-step n i l d, t)
 
+  -- nothing is left to look at
   pub retain-end : (p : A → Bool) (n i j : ℕ) (l : List A) → n ≤ i → take j l ++ retain p (rest n i l) ≡ take j l
   unfolding retain
   retain-end p n i j l h = rw (rest-end n i l) (append-nil (take j l))
@@ -48,6 +51,7 @@ module _ {ℓ} {A : Type ℓ} where
       let b : i < i + 1 = omega arith in
       rw (rest-step n i l d, ← e, rest-set n (i + 1) l i c, add-one, take-suc-set l i c, append-snoc (take i l) c)
 
+  -- the element carried comes last
   pub carry-end : (n i : ℕ) (l : List A) (c : A) → i ≡ n → n < length l → take (n + 1) (set l n c) ≡ take i l ++ c ∷ rest n i l
   carry-end n i l c e h =
       let b : n ≤ i = omega arith in
@@ -60,5 +64,6 @@ module _ {ℓ} {A B : Type ℓ} (f : A → B) (n i : ℕ) (l : List A) (out : Li
       take (i + 1) (set out i v) ++ map f (rest n (i + 1) l) ≡ take i out ++ map f (rest n i l)
   gather-step d v h k o e = rw (rest-step n i l d, ← e, add-one, take-suc-set out i v, append-snoc (take i out) v)
 
+  -- nothing is left to gather
   pub gather-end : n ≤ i → take i out ++ map f (rest n i l) ≡ take i out
   gather-end h = rw (rest-end n i l) (append-nil (take i out))

@@ -12,29 +12,35 @@ module _ {ℓ} {A B : Type ℓ} (f : A → B) where
   map-take (suc n) [] = refl
   map-take (suc n) (x ∷ xs) = ap (λ (r : List B). f x ∷ r) (map-take n xs)
 
+  -- a map and what is left
   pub map-drop : (n : ℕ) (l : List A) → map f (drop n l) ≡ drop n (map f l)
   map-drop zero l = refl
   map-drop (suc n) [] = refl
   map-drop (suc n) (x ∷ xs) = map-drop n xs
 
+  -- a map and a place set
   pub map-set : (l : List A) (i : ℕ) (a : A) → map f (set l i a) ≡ set (map f l) i (f a)
   map-set [] i a = refl
   map-set (x ∷ xs) zero a = refl
   map-set (x ∷ xs) (suc i) a = ap (λ (r : List B). f x ∷ r) (map-set xs i a)
 
+  -- a map and a place read
   pub map-getD : (l : List A) (i : ℕ) (d : A) → getD (map f l) i (f d) ≡ f (getD l i d)
   map-getD [] i d = refl
   map-getD (x ∷ xs) zero d = refl
   map-getD (x ∷ xs) (suc i) d = map-getD xs i d
 
+  -- a map and lists one after the other
   pub map-append : (l r : List A) → map f (l ++ r) ≡ map f l ++ map f r
   map-append [] r = refl
   map-append (x ∷ xs) r = ap (λ (q : List B). f x ∷ q) (map-append xs r)
 
+  -- a map keeps the length
   pub map-length : (l : List A) → length (map f l) ≡ length l
   map-length [] = refl
   map-length (x ∷ xs) = ap suc (map-length xs)
 
+  -- a map and what is kept
   pub map-retain : (p : B → Bool) (l : List A) → map f (retain (λ (a : A). p (f a)) l) ≡ retain p (map f l)
   unfolding retain
   map-retain p [] = refl

@@ -15,6 +15,7 @@ module _ {ℓ} {A : Type ℓ} where
   unfolding rest
   rest-start n l = refl
 
+  -- what is left at i begins with the element there
   pub rest-step : (n i : ℕ) (l : List A) (d : A) → i < n → n ≤ length l → rest n i l ≡ getD l i d ∷ rest n (i + 1) l
   unfolding rest
   rest-step n i l d h k =
@@ -22,6 +23,7 @@ module _ {ℓ} {A : Type ℓ} where
       let q : i < length (take n l) = omega arith in
       rw (add-one, drop-cons (take n l) i d, getD-take n l i d)
 
+  -- past the end nothing is left
   pub rest-end : (n i : ℕ) (l : List A) → n ≤ i → rest n i l ≡ []
   unfolding rest
   rest-end n i l h =
@@ -34,6 +36,7 @@ module _ {ℓ} {A : Type ℓ} where
   take-set (suc n) (x ∷ xs) zero a = refl
   take-set (suc n) (x ∷ xs) (suc i) a = ap (λ (r : List A). x ∷ r) (take-set n xs i a)
 
+  -- a cut at the list's own length cuts nothing
   pub take-min : (n m : ℕ) (l : List A) → length l ≡ m → take (min n m) l ≡ take n l
   take-min zero m l h = rw zero-min
   take-min (suc n) zero [] h = rw min-zero
@@ -52,6 +55,7 @@ module _ {ℓ} {A : Type ℓ} where
   pub cut-take : (n c m : ℕ) (l : List A) → n ≡ min c m → length l ≡ m → take n l ≡ take c l
   cut-take n c m l e h = rw e (take-min c m l h)
 
+  -- at 0 all of the first c are left
   pub cut-start : (n c m : ℕ) (l : List A) → n ≡ min c m → length l ≡ m → rest n 0 l ≡ take c l
   cut-start n c m l e h = rest-start n l ∙ cut-take n c m l e h
 

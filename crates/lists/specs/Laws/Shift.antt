@@ -17,6 +17,7 @@ module _ {ℓ} {A : Type ℓ} where
   split-out zero (x ∷ xs) h = refl
   split-out (suc i) (x ∷ xs) h = ap (λ (r : List A). x ∷ r) (split-out i xs (let k : i < length xs = omega arith in k))
 
+  -- before the first move
   pub shift-start : (n i : ℕ) (l : List A) → i < n → n ≤ length l → take i l ++ rest n (i + 1) l ≡ without i (take n l)
   unfolding rest
   shift-start n i l h k =
@@ -25,6 +26,7 @@ module _ {ℓ} {A : Type ℓ} where
       ap₂ (λ (a r : List A). a ++ r) (sym (take-take i n l g)) (ap (λ (m : ℕ). drop m (take n l)) (add-one i))
       ∙ sym (split-out i (take n l) (let q : i < length (take n l) = omega arith in q))
 
+  -- one element moved down
   pub shift-step :
       (n k : ℕ) (l : List A) (d v : A) → k + 1 < n → n ≤ length l → v ≡ getD l (k + 1) d →
       take (k + 1) (set l k v) ++ rest n (k + 1 + 1) (set l k v) ≡ take k l ++ rest n (k + 1) l
@@ -35,6 +37,7 @@ module _ {ℓ} {A : Type ℓ} where
       ∙ append-snoc (take k l) v (rest n (k + 1 + 1) l)
       ∙ ap (λ (r : List A). take k l ++ r) (ap (λ (a : A). a ∷ rest n (k + 1 + 1) l) e ∙ sym (rest-step n (k + 1) l d h b))
 
+  -- all are moved
   pub shift-end : (n k : ℕ) (l : List A) → n ≡ k + 1 → take k l ++ rest n (k + 1) l ≡ take (n - 1) l
   shift-end n k l e =
       let g : n ≤ k + 1 = omega arith in

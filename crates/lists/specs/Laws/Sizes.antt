@@ -12,11 +12,13 @@ module _ {ℓ} {A : Type ℓ} where
   one-more true x xs n h = omega arith
   one-more false x xs n h = omega arith
 
+  -- no more are kept than there are
   pub retain-length : (p : A → Bool) (l : List A) → length (retain p l) ≤ length l
   unfolding retain
   retain-length p [] = omega arith
   retain-length p (x ∷ xs) = one-more (p x) x (retain p xs) (length xs) (retain-length p xs)
 
+  -- one fewer
   pub without-length : (i : ℕ) (l : List A) → i < length l → length (without i l) + 1 ≡ length l
   unfolding without
   without-length i [] h = absurd (omega arith)

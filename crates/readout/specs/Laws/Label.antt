@@ -23,6 +23,7 @@ module _ (radius2 : Float) (labels : List ℤ) where
   label-found none = refl
   label-found (some b) = refl
 
+  -- the label by measured distances is the one by the micro-clusters
   pub label-measured :
       (bodies : List Body) (x distances : List Float) → distances ≡ map (distanceTo x) bodies →
       labelAmong radius2 distances labels ≡ labelFor radius2 bodies labels x

@@ -84,12 +84,14 @@ module _ {A : Type 0} (distance : A → Float) where
     pub low : place < length l
     pub is : (z : A) → nearestOf distance l ≡ some (record { place = place; micro = getD l place z; dist = dist })
 
+  -- a place found is the nearest one's
   pub found-at : (l : List A) (place : ℕ) (dist : Float) → foundOf (nearestOf distance l) ≡ At place dist → FoundAt l place dist
   found-at l place dist e =
       let w = found-some (nearestOf distance l) place dist e in
       let q = nearest-stands l (record { place = place; micro = w .0; dist = dist }) (w .1) in
       record { low = q .0; is = λ z. w .1 ∙ ap (λ (m : A). some (record { place = place; micro = m; dist = dist })) (sym (q .1 z)) }
 
+  -- nothing is found where there is none
   pub found-nothing : (l : List A) → foundOf (nearestOf distance l) ≡ Nothing → nearestOf distance l ≡ none
   found-nothing l e = go (nearestOf distance l) e
     where
@@ -97,6 +99,7 @@ module _ {A : Type 0} (distance : A → Float) where
       go none e = refl
       go (some b) e = let z : _≡_ {A = ℕ} 0 1 = cc in absurd (omega arith)
 
+-- a place found is one of the list
 pub nearest-low : (l : List Float) (place : ℕ) (dist : Float) → nearestAmong l ≡ At place dist → place < length l
 unfolding nearestAmong
 nearest-low l place dist e = found-at (λ (d : Float). d) l place dist e .low

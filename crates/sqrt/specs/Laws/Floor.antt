@@ -10,12 +10,15 @@ use lib.Ieee.{size}
 use lib.Ieee.Digits.{size-lt}
 use Rattle.sqrt.specs.Root.{IsRoot, grow, root, floorRoot, sticky}
 
+-- the square of the double
 pub twice-square : (r : ℕ) → 2 * r * (2 * r) ≡ 4 * (r * r)
 twice-square r = simp (mul-comm, mul-left-comm) (omega arith)
 
+-- the square of the next number
 pub next-square : (r : ℕ) → suc r * suc r ≡ r * r + 2 * r + 1
 next-square r = simp (mul-suc, suc-mul) (omega arith)
 
+-- the square of an odd number
 pub odd-square : (r : ℕ) → suc (2 * r) * suc (2 * r) ≡ 4 * (r * r) + 4 * r + 1
 odd-square r = omega (arith, next-square (2 * r), twice-square r)
 
@@ -36,6 +39,7 @@ root-is (suc d) n h =
     (omega (arith, twice-square r, ih .0))
     (omega (arith, next-square (suc (2 * r)), next-square (2 * r), twice-square r, next-square r, ih .1))
 
+-- every number has a root, cut
 pub floor-root : (n : ℕ) → IsRoot n (floorRoot n)
 unfolding floorRoot
 floor-root n = root-is (size n) n (lt-of-lt-of-le (size-lt n) (pow-le-pow-left (omega arith) (size n)))
@@ -56,6 +60,7 @@ pub record Sticky (n t : ℕ) : Type 0 where
   pub high : t ≤ 2 * q + 1
   pub exact : t ≡ 2 * q → q * q ≡ n
 
+-- so it is of every number
 pub sticky-is : (n : ℕ) → Sticky n (sticky n)
 unfolding sticky
 sticky-is n = go (eqb (floorRoot n * floorRoot n) n) (eqb→eq (floorRoot n * floorRoot n) n)

@@ -15,6 +15,7 @@ use Rattle.sqrt.specs.Laws.Floor.{odd-square, sticky-is}
 use Rattle.sqrt.specs.Inside.Digits.{Rooted}
 use Rattle.sqrt.specs.Laws.Rounding.{Step, step-of, rounds-to, units-value, bits-are}
 
+-- 4^j as a square
 pub pow-four : (j : ℕ) → 4 ^ j ≡ 2 ^ j * 2 ^ j
 pow-four zero = refl
 pow-four (suc j) = rw (pow-suc 4 j, pow-suc 2 j, pow-four j) (sym (mul-mul-mul-comm (2 ^ j) 2 (2 ^ j) 2))
@@ -56,6 +57,7 @@ module _ (m k q i : ℕ) (low-k : k ≤ 2097) (d : Rooted (m * (1 + k % 2)) q i)
   abbrev pub a : ℕ
   a = m * (1 + k % 2) * 4 ^ (i - 27)
 
+  -- x in units is a times a square of a power of two
   pub scale : m * 2 ^ k * 2 ^ 110 ≡ a * (2 ^ c * 2 ^ c)
   scale =
       ap (λ (x : ℕ). m * x * 2 ^ 110) (pow-half k)
@@ -95,21 +97,26 @@ module _ (m k q i : ℕ) (low-k : k ≤ 2097) (d : Rooted (m * (1 + k % 2)) q i)
   abbrev pub field : ℕ
   field = 565 + k / 2 - i
 
+  -- the exponent's field, from the power of two
   pub field-is : c + 483 ≡ field
   field-is = omega (arith, d .least, d .most)
 
+  -- rounding the sticky root gives the 53 digits
   pub rounded-is : round binary64 false (sticky (m * 2 ^ k * 2 ^ 110)) (2 ^ 593) ≡ units binary64 false ((q + 1) / 2) field
   rounded-is = rounds-to a c q (sticky (m * 2 ^ k * 2 ^ 110)) step no-tie (d .low) (d .high) ∙ ap (units binary64 false ((q + 1) / 2)) field-is
 
+  -- their bits
   pub rounded-bits : ofBits binary64 (field * 2 ^ 52 + (q + 1) / 2) ≡ round binary64 false (sticky (m * 2 ^ k * 2 ^ 110)) (2 ^ 593)
   rounded-bits =
       bits-are ((q + 1) / 2) field (omega (arith, d .low)) (omega (arith, d .high)) (omega (arith, d .least))
       (subst (λ (v : Float). T (fits binary64 v)) rounded-is (round-fits binary64 false (sticky (m * 2 ^ k * 2 ^ 110)) (2 ^ 593)))
       ∙ sym rounded-is
 
+  -- their value
   pub rounded-value : HasValue (units binary64 false ((q + 1) / 2) field) false ((q + 1) / 2 * 2 ^ field) (2 ^ 1074)
   rounded-value = units-value ((q + 1) / 2) field (omega (arith, d .high)) (omega (arith, d .least))
 
+  -- they are no NaN
   pub rounded-no-nan : T (not (nanBits binary64 (field * 2 ^ 52 + (q + 1) / 2)))
   rounded-no-nan =
       rw (nanBits-is binary64 (field * 2 ^ 52 + (q + 1) / 2), rounded-bits, rounded-is)

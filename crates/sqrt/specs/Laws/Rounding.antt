@@ -109,6 +109,7 @@ pub record Step (a p q t : ℕ) : Type 0 where
   pub to : t < suc q * (2 * p)
   pub exact : t ≡ q * (2 * p) → q * q ≡ a
 
+-- the sticky root lies in that step
 pub step-of : (n a p q t : ℕ) → 0 < p → n ≡ a * (p * p) → IsRoot a q → Sticky n t → Step a p q t
 step-of n a p q t P e r s =
     let Q = s .q in
@@ -150,6 +151,7 @@ scaled-high : (c : ℕ) → 2 ^ 54 * (2 * 2 ^ c) * 2 ^ 481 ≡ 2 ^ (c + 536)
 scaled-high c =
     ap (λ (x : ℕ). x * 2 ^ 481) (sym (mul-assoc (2 ^ 54) 2 (2 ^ c)) ∙ mul-comm (2 ^ 55) (2 ^ c)) ∙ mul-assoc (2 ^ c) (2 ^ 55) (2 ^ 481) ∙ sym (pow-add 2 c 536)
 
+-- it rounds to 53 digits: half of q + 1
 pub rounds-to :
     (a c q t : ℕ) → Step a (2 ^ c) q t → (q * q ≡ a → q % 2 ≡ 0) → 2 ^ 53 ≤ q → q < 2 ^ 54 →
     round binary64 false t (2 ^ 593) ≡ units binary64 false ((q + 1) / 2) (c + 483)
@@ -226,12 +228,14 @@ bits-of r g lo hi = elim (eq-or-lt-of-le hi) [
     carry : (g r : ℕ) → r ≡ 2 ^ 53 → suc g * 2 ^ 52 + 2 ^ 52 ≡ g * 2 ^ 52 + r
     carry g r e = omega arith
 
+-- the value of 53 digits at a power of two
 pub units-value : (r g : ℕ) → r ≤ 2 ^ 53 → g ≤ 2044 → HasValue (units binary64 false r g) false (r * 2 ^ g) (2 ^ 1074)
 units-value r g hi G = units-val binary64 false r g (lt-of-lt-of-le (shl-lt 54 g (omega arith)) (pow-mono (room g G)))
   where
     room : (g : ℕ) → g ≤ 2044 → 54 + g ≤ 2098
     room g h = omega arith
 
+-- the bits of 53 digits at a power of two
 pub bits-are :
     (r g : ℕ) → 2 ^ 52 ≤ r → r ≤ 2 ^ 53 → g ≤ 2044 → T (fits binary64 (units binary64 false r g)) →
     ofBits binary64 (g * 2 ^ 52 + r) ≡ units binary64 false r g

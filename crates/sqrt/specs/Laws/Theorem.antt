@@ -59,6 +59,7 @@ module _ (m : ℕ) (some : 0 < m) (few : m < 2 ^ 54) where
         lt-of-le-of-lt (le-of-eq four) (lt-of-lt-of-le (shl-lt s (j + j) (size-lt m)) (pow-mono {i = s + (j + j)} {j = 108} (omega arith))),
       )
 
+  -- m has a root of 54 digits
   pub has-root : Rooted m (floorRoot (m * 4 ^ (rounds - 27))) rounds
   has-root =
       let n = m * 4 ^ (rounds - 27) in
@@ -74,6 +75,7 @@ square-lt x y h = lt-of-lt-of-le {n = x * x} {m = suc x * suc x} (more x) (mul-l
     more : (x : ℕ) → x * x < suc x * suc x
     more x = simp (mul-suc, suc-mul) (omega arith)
 
+-- the root of a positive double is rounded to the nearest
 pub sqrt-nearest : (x : Float) (m k : ℕ) → 0 < m → m < 2 ^ 53 → k ≤ 2097 → HasValue x false (m * 2 ^ k) (2 ^ 1074) → NearestRoot (m * 2 ^ k) (sqrtOf x)
 sqrt-nearest x m k some few low v = record {
   r = R;

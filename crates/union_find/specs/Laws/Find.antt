@@ -18,6 +18,7 @@ unfolding findFrom
 find-stop zero p x s e = refl
 find-stop (suc k) p x s e = rw (eq-eqb (up p x) x e)
 
+-- at any other place it goes on
 pub find-on : (k : ℕ) (p : List ℕ) (x s : ℕ) → up p x ≢ x → findFrom (suc k) p x s ≡ findFrom k (halve p x) (up p (up p x)) (suc s)
 unfolding findFrom
 find-on k p x s e = rw (ne-eqb (up p x) x e)
@@ -30,6 +31,7 @@ module _ (p r : List ℕ) (wf : WellFormed p r) (x s : ℕ) (hx : x < places) (m
   pub made-few : s ≤ 3
   made-few = ⊎-elim (λ h. let c : getD r x 0 ≤ 6 = wf .cap x hx in omega arith) (λ h. h .1) m
 
+  -- a halving step more
   pub made-next : up p x ≢ x → Made (halve p x) r (up p (up p x)) (suc s)
   made-next nx =
       let twice : s + s ≤ getD r x 0 = ⊎-elim (λ h. h) (λ h. absurd (nx (h .0))) m in
@@ -71,6 +73,7 @@ finds r (suc k) p wf x s hx hk m =
       few = f .few;
     }))
 
+-- what a find leaves
 pub find-law : (p r : List ℕ) → WellFormed p r → (x : ℕ) → x < places → Finds p r x (findOf p x)
 unfolding findOf
 find-law p r wf x hx = finds r places p wf x 0 hx (omega arith) (inl (omega arith))

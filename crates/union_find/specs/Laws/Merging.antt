@@ -24,6 +24,7 @@ pub record Merged (n : ℕ) (f g : ℕ → ℕ) (a b : ℕ) : Type 0 where
   pub met : g a ≡ g b
   pub only : (i j : ℕ) → i < n → j < n → g i ≡ g j → (f i ≡ f j) ⊎ (((f i ≡ f a) × (f b ≡ f j)) ⊎ ((f i ≡ f b) × (f a ≡ f j)))
 
+-- with no pairs each place is for itself
 pub kernel-start : (n : ℕ) → Kernel n (λ i. i) (λ i j. ⊥)
 kernel-start n i j hi hj = ((λ e. subst (λ (k : ℕ). Chain (λ i j. ⊥) i k) e here), same)
   where

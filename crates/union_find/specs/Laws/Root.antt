@@ -23,6 +23,7 @@ module _ (n : ℕ) (u : UnionFind) (e : ℕ × ℕ) where
   unfolding joinOf
   join-in ha hb = simp (lt-ltb (e .0) n ha, lt-ltb (e .1) n hb)
 
+  -- a pair with a place past n joins nothing
   pub join-out : (e .0 < n → e .1 < n → ⊥) → joinOf n u e ≡ u
   unfolding joinOf
   join-out h =
@@ -106,6 +107,7 @@ pub record RootsTell (n : ℕ) (es : List (ℕ × ℕ)) (roots : List ℕ) : Typ
   -- two roots are equal exactly when a chain of joined pairs leads from the one place to the other
   pub equal : (i j : ℕ) → i < places → j < places → (getD roots i 0 ≡ getD roots j 0) ↔ Chain (Joined n es) i j
 
+-- the roots tell which places are chained
 pub roots-tell : (n : ℕ) → n ≤ places → (es : List (ℕ × ℕ)) → RootsTell n es (rootsOf n es)
 unfolding rootsOf
 roots-tell n hn es =

@@ -14,10 +14,12 @@ abbrev pub sum : ℕ → (ℕ → ℕ) → ℕ
 sum zero f = 0
 sum (suc n) f = sum n f + f n
 
+-- equal values have equal sums
 pub sum-agree : (n : ℕ) (f g : ℕ → ℕ) → ((i : ℕ) → i < n → f i ≡ g i) → sum n f ≡ sum n g
 sum-agree zero f g h = refl
 sum-agree (suc n) f g h = ap₂ _+_ (sum-agree n f g (λ i hi. h i (omega arith))) (h n (omega arith))
 
+-- a sum has each of its values
 pub sum-has : (n : ℕ) (f : ℕ → ℕ) (a : ℕ) → a < n → f a ≤ sum n f
 sum-has zero f a h = omega arith
 sum-has (suc n) f a h =

@@ -27,18 +27,22 @@ module _ (u : UnionFind) (x y : ℕ) where
   abbrev rank-y : ℕ
   rank-y = getD (u .rank) y 0
 
+  -- one root: nothing changes
   pub link-same : x ≡ y → linkOf u x y ≡ u
   unfolding linkOf
   link-same e = simp (eq-eqb x y e)
 
+  -- x goes under y
   pub link-less : x ≢ y → getD (u .rank) x 0 < getD (u .rank) y 0 → linkOf u x y ≡ record { parent = set (u .parent) x y; rank = u .rank }
   unfolding linkOf
   link-less n h = simp (ne-eqb x y n, lt-ltb rank-x rank-y h)
 
+  -- y goes under x
   pub link-more : x ≢ y → getD (u .rank) y 0 < getD (u .rank) x 0 → linkOf u x y ≡ record { parent = set (u .parent) y x; rank = u .rank }
   unfolding linkOf
   link-more n h = simp (ne-eqb x y n, le-ltb rank-x rank-y (omega arith), lt-ltb rank-y rank-x h)
 
+  -- y goes under x, whose rank grows
   pub link-equal :
       x ≢ y → getD (u .rank) x 0 ≡ getD (u .rank) y 0 →
       linkOf u x y ≡ record { parent = set (u .parent) y x; rank = set (u .rank) x (getD (u .rank) x 0 + 1) }
@@ -105,6 +109,7 @@ module _ (u : UnionFind) (wf : Sound u) (x y a b : ℕ) (ha : a < places) (hb : 
           link-well p r wf y x hy hx ty tx (Ne·symm n) r′ (λ i ix. getD-set-other r x i (getD r x 0 + 1) 0 ix) (length-set r x (getD r x 0 + 1) ∙ wf .rlen)
           (omega (arith, now-x)) (omega (arith, now-x)) light
 
+  -- a link of the roots of a and b
   pub link-law : Joins u a b (linkOf u x y)
   link-law =
       by-cases (ℕ-discrete x y) (λ e. subst (Joins u a b) (sym (link-same u x y e)) (at-same e))
@@ -167,6 +172,7 @@ pub table-length : {A : Type 0} (n : ℕ) (f : ℕ → A) → length (table n f)
 table-length zero f = refl
 table-length (suc n) f = length-append (table n f) (f n ∷ []) ∙ ap₂ _+_ (table-length n f) refl ∙ add-one n
 
+-- a table's value at i
 pub table-at : {A : Type 0} (n : ℕ) (f : ℕ → A) (d : A) (i : ℕ) → i < n → getD (table n f) i d ≡ f i
 table-at zero f d i h = absurd (omega arith)
 table-at (suc n) f d i h =
@@ -186,6 +192,7 @@ new-law =
       weight = lit≤ tt;
     }
 
+-- each place of the fresh forest is its own root
 pub new-root : (i : ℕ) → i < places → rootOf (newOf .parent) i ≡ i
 unfolding newOf
 new-root i hi = root-eq (newOf .parent) (newOf .rank) new-law hi (top (table-at places (λ i. i) 0 i hi))

@@ -31,14 +31,17 @@ pub data Root (p : List ℕ) : ℕ → ℕ → Type 0 where
   top : {x : ℕ} → up p x ≡ x → Root p x x
   via : {x y : ℕ} → Root p (up p x) y → Root p x y
 
+-- a root is its own parent
 pub root-top : {p : List ℕ} {x y : ℕ} → Root p x y → up p y ≡ y
 root-top (top e) = e
 root-top (via d) = root-top d
 
+-- what is its own parent has no other root
 pub root-of-top : {p : List ℕ} {x y : ℕ} → up p x ≡ x → Root p x y → x ≡ y
 root-of-top e (top q) = refl
 root-of-top {p} {x} {y} e (via d) = sym e ∙ root-of-top (ap (up p) e) d
 
+-- there is one root
 pub root-one : {p : List ℕ} {x y z : ℕ} → Root p x y → Root p x z → y ≡ z
 root-one (top e) d = root-of-top e d
 root-one {p} (via c) (top e) = sym (sym e ∙ root-of-top (ap (up p) e) c)
@@ -60,13 +63,16 @@ module _ (p r : List ℕ) (wf : WellFormed p r) where
       by-cases (ℕ-discrete (up p x) x) (λ e. subst (Root p x) (sym (climb-root p x (suc k) e)) (top e))
       (λ e. via (climbs k (up p x) (wf .low x hx) (let a : getD r x 0 < getD r (up p x) 0 = wf .rise x hx e in omega arith)))
 
+  -- `rootOf` is the root
   pub root-is : (x : ℕ) → x < places → Root p x (rootOf p x)
   unfolding rootOf
   root-is x hx = climbs 6 x hx (omega arith)
 
+  -- and no other is
   pub root-eq : {x y : ℕ} → x < places → Root p x y → rootOf p x ≡ y
   root-eq {x} hx d = root-one (root-is x hx) d
 
+  -- the root is a place
   pub root-low : {x y : ℕ} → x < places → Root p x y → y < places
   root-low hx (top e) = hx
   root-low {x} hx (via d) = root-low (wf .low x hx) d
@@ -79,6 +85,7 @@ module _ (p r : List ℕ) (wf : WellFormed p r) where
       (λ q. let a : getD r x 0 < getD r (up p x) 0 = wf .rise x hx e in let b : getD r (up p x) 0 < getD r (up p (up p x)) 0 = wf .rise (up p x)
       (wf .low x hx) q in omega arith)
 
+  -- a grandparent is another place
   pub grand-ne : (x : ℕ) → x < places → up p x ≢ x → up p (up p x) ≢ x
   grand-ne x hx e q =
       let a : getD r x 0 < getD r (up p (up p x)) 0 = grand-rank x hx e in
@@ -112,6 +119,7 @@ module _ (p r : List ℕ) (wf : WellFormed p r) (x : ℕ) (hx : x < places) (nx 
       (ap (λ (t : Bool). cond t (2 ^ getD r x 0) 0) (ne-eqb (up p x) x nx ∙ sym (ne-eqb (up (halve p x) x) x (λ e. grand-ne p r wf x hx nx (sym at-x ∙ e))))))
       (λ q. ap (λ (k : ℕ). cond (eqb k i) (2 ^ getD r i 0) 0) (sym (at-other i q)))
 
+  -- halving keeps the forest well-formed
   pub halve-well : WellFormed (halve p x) r
   halve-well =
       record {
