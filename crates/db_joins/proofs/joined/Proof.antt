@@ -142,23 +142,5 @@ returns c =
 pub joined-spec : {M : Type 1} → statement M
 joined-spec =
     tie.close
-    (tie.spec
-    Inv-loop
-    μ-loop
-    cut-requires
-    cut-requires-2
-    loop-holds
-    mul-l
-    array-copy-out-l
-    place-of-requires
-    place-of-requires-2
-    joins-requires
-    mul-a
-    array-write-a
-    mul-b
-    array-write-b
-    add-k
-    add-q
-    loop-less
-    loop-again
-    returns)
+    (tie.spec Inv-loop μ-loop cut-requires cut-requires-2 loop-holds mul-l array-copy-out-l place-of-requires place-of-requires-2 joins-requires mul-a
+    array-write-a mul-b array-write-b add-k add-q loop-less loop-again returns)

@@ -63,13 +63,5 @@ returns c =
 pub labels-of-spec : {M : Type 1} → statement M
 labels-of-spec =
     tie.close
-    (tie.spec
-    cut-requires
-    joined-requires
-    array-share-prefix-a
-    slice-aggregate-roots
-    array-share-prefix-b
-    slice-aggregate-roots-2
-    roots-requires
-    labels-requires
-    returns)
+    (tie.spec cut-requires joined-requires array-share-prefix-a slice-aggregate-roots array-share-prefix-b slice-aggregate-roots-2 roots-requires
+    labels-requires returns)

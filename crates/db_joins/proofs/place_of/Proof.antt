@@ -66,15 +66,4 @@ returns-2 c =
 
 pub place-of-spec : {M : Type 1} → statement M
 place-of-spec =
-    tie.close
-    (tie.spec
-    Inv-loop
-    μ-loop
-    loop-holds
-    mul-a
-    array-copy-out-a
-    returns
-    add-i
-    loop-less
-    loop-again
-    returns-2)
+    tie.close (tie.spec Inv-loop μ-loop loop-holds mul-a array-copy-out-a returns add-i loop-less loop-again returns-2)

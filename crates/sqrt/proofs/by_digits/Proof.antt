@@ -70,21 +70,4 @@ returns c =
 
 pub by-digits-spec : {M : Type 1} → statement M
 by-digits-spec =
-    tie.close
-    (tie.spec
-    Inv-loop
-    μ-loop
-    mul-w
-    loop-holds
-    mul-a
-    add-a
-    mul-w-2
-    mul-t
-    add-t
-    mul-q
-    add-q
-    mul-q-2
-    add-i
-    loop-less
-    loop-again
-    returns)
+    tie.close (tie.spec Inv-loop μ-loop mul-w loop-holds mul-a add-a mul-w-2 mul-t add-t mul-q add-q mul-q-2 add-i loop-less loop-again returns)

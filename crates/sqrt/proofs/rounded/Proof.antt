@@ -53,14 +53,4 @@ returns c =
 pub rounded-spec : {M : Type 1} → statement M
 rounded-spec =
     tie.close
-    (tie.spec
-    add-digits
-    mul-digits
-    digits-requires
-    add-result
-    sub-result
-    mul-result
-    add-result-2
-    add-result-3
-    float-from-bits-result
-    returns)
+    (tie.spec add-digits mul-digits digits-requires add-result sub-result mul-result add-result-2 add-result-3 float-from-bits-result returns)

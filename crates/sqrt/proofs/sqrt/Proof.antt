@@ -68,15 +68,4 @@ returns-5 c = neither (c .before .before .args .x) (c .before .if1 .left) (c .if
 
 pub sqrt-spec : {M : Type 1} → statement M
 sqrt-spec =
-    tie.close
-    (tie.spec
-    returns
-    float-to-bits-b
-    rounded-requires
-    returns-2
-    add-rounded
-    sub-rounded
-    rounded-requires-2
-    returns-3
-    returns-4
-    returns-5)
+    tie.close (tie.spec returns float-to-bits-b rounded-requires returns-2 add-rounded sub-rounded rounded-requires-2 returns-3 returns-4 returns-5)

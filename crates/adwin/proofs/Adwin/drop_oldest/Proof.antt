@@ -80,20 +80,5 @@ returns c =
 pub drop-oldest-spec : {M : Type 1} → statement M
 drop-oldest-spec =
     tie.close
-    (tie.spec
-    Inv-loop
-    μ-loop
-    element-copy-out-gone
-    variance-without-requires
-    sub-m
-    loop-holds
-    add-p
-    mul-b
-    element-copy-out-b
-    element-copy-out-c
-    mul-b-2
-    element-set-from-b
-    element-write-self
-    loop-less
-    loop-again
-    returns)
+    (tie.spec Inv-loop μ-loop element-copy-out-gone variance-without-requires sub-m loop-holds add-p mul-b element-copy-out-b element-copy-out-c
+    mul-b-2 element-set-from-b element-write-self loop-less loop-again returns)

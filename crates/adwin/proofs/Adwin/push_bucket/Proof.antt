@@ -162,45 +162,7 @@ returns c =
 pub push-bucket-spec : {M : Type 1} → statement M
 push-bucket-spec =
     tie.close
-    (tie.spec
-    Inv-loop2
-    μ-loop2
-    Inv-loop
-    μ-loop
-    mul-new
-    element-set-from-new
-    element-write-self
-    add-self
-    loop-holds
-    sub-i
-    element-copy-out-class
-    element-copy-out-if1
-    loop-less
-    loop-again
-    add-if2
-    mul-older
-    element-copy-out-older
-    mul-newer
-    element-copy-out-newer
-    merged-requires
-    mul-t30
-    element-set-from-self
-    next-class-requires
-    element-write-self-2
-    sub-m
-    loop2-holds
-    add-p
-    mul-b
-    element-copy-out-b
-    element-copy-out-c
-    mul-b-2
-    element-set-from-b
-    element-write-self-3
-    loop2-less
-    loop2-again
-    loop-less-2
-    loop-again-2
-    add-k
-    loop-less-3
-    loop-again-3
-    returns)
+    (tie.spec Inv-loop2 μ-loop2 Inv-loop μ-loop mul-new element-set-from-new element-write-self add-self loop-holds sub-i element-copy-out-class
+    element-copy-out-if1 loop-less loop-again add-if2 mul-older element-copy-out-older mul-newer element-copy-out-newer merged-requires mul-t30
+    element-set-from-self next-class-requires element-write-self-2 sub-m loop2-holds add-p mul-b element-copy-out-b element-copy-out-c mul-b-2
+    element-set-from-b element-write-self-3 loop2-less loop2-again loop-less-2 loop-again-2 add-k loop-less-3 loop-again-3 returns)

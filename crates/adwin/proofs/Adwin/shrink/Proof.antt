@@ -42,13 +42,4 @@ returns c =
 
 pub shrink-spec : {M : Type 1} → statement M
 shrink-spec =
-    tie.close
-    (tie.spec
-    Inv-loop
-    μ-loop
-    loop-holds
-    must-drop-requires
-    drop-oldest-requires
-    loop-less
-    loop-again
-    returns)
+    tie.close (tie.spec Inv-loop μ-loop loop-holds must-drop-requires drop-oldest-requires loop-less loop-again returns)

@@ -122,17 +122,5 @@ returns-4 c =
 pub update-spec : {M : Type 1} → statement M
 update-spec =
     tie.close
-    (tie.spec
-    is-finite-requires
-    returns
-    has-room-requires
-    returns-2
-    variance-with-requires
-    single-requires
-    push-bucket-requires
-    add-w
-    sub-if3
-    add-w-2
-    returns-3
-    shrink-requires
-    returns-4)
+    (tie.spec is-finite-requires returns has-room-requires returns-2 variance-with-requires single-requires push-bucket-requires add-w sub-if3 add-w-2
+    returns-3 shrink-requires returns-4)

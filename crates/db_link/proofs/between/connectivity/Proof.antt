@@ -50,12 +50,4 @@ returns-4 c = rw (sym (c .before .is-among .ensures) ∙ c .if1 .left) refl
 
 pub connectivity-spec : {M : Type 1} → statement M
 connectivity-spec =
-    tie.close
-    (tie.spec
-    is-among-requires
-    is-among-requires-2
-    density-requires
-    returns
-    returns-2
-    returns-3
-    returns-4)
+    tie.close (tie.spec is-among-requires is-among-requires-2 density-requires returns returns-2 returns-3 returns-4)

@@ -91,18 +91,5 @@ returns-2 c =
 pub density-spec : {M : Type 1} → statement M
 density-spec =
     tie.close
-    (tie.spec
-    Inv-loop
-    μ-loop
-    cut-requires
-    key-of-requires
-    loop-holds
-    mul-l
-    array-copy-out-l
-    same-ends-requires
-    faded-requires
-    returns
-    add-i
-    loop-less
-    loop-again
-    returns-2)
+    (tie.spec Inv-loop μ-loop cut-requires key-of-requires loop-holds mul-l array-copy-out-l same-ends-requires faded-requires returns add-i loop-less
+    loop-again returns-2)

@@ -68,16 +68,4 @@ returns-2 c =
 
 pub is-among-spec : {M : Type 1} → statement M
 is-among-spec =
-    tie.close
-    (tie.spec
-    Inv-loop
-    μ-loop
-    cut-requires
-    loop-holds
-    mul-a
-    array-copy-out-a
-    returns
-    add-i
-    loop-less
-    loop-again
-    returns-2)
+    tie.close (tie.spec Inv-loop μ-loop cut-requires loop-holds mul-a array-copy-out-a returns add-i loop-less loop-again returns-2)

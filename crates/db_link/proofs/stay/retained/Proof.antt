@@ -65,18 +65,5 @@ returns c =
 pub retained-spec : {M : Type 1} → statement M
 retained-spec =
     tie.close
-    (tie.spec
-    Inv-loop
-    μ-loop
-    cut-requires
-    loop-holds
-    mul-l
-    array-copy-out-l
-    stays-requires
-    mul-links
-    array-set-from-links
-    add-j
-    add-i
-    loop-less
-    loop-again
-    returns)
+    (tie.spec Inv-loop μ-loop cut-requires loop-holds mul-l array-copy-out-l stays-requires mul-links array-set-from-links add-j add-i loop-less
+    loop-again returns)

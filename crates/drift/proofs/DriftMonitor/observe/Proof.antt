@@ -74,13 +74,4 @@ returns-3 c =
 pub observe-spec : {M : Type 1} → statement M
 observe-spec =
     tie.close
-    (tie.spec
-    enum-known-nearest
-    enum-told
-    returns
-    sqrt-requires
-    update-requires
-    rings-requires
-    wrapping-add-u64-requires
-    returns-2
-    returns-3)
+    (tie.spec enum-known-nearest enum-told returns sqrt-requires update-requires rings-requires wrapping-add-u64-requires returns-2 returns-3)

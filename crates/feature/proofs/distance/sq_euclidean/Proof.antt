@@ -62,17 +62,4 @@ returns c =
 
 pub sq-euclidean-spec : {M : Type 1} → statement M
 sq-euclidean-spec =
-    tie.close
-    (tie.spec
-    Inv-loop
-    μ-loop
-    cut-requires
-    loop-holds
-    mul-d
-    array-read-d
-    mul-d-2
-    array-read-d-2
-    add-i
-    loop-less
-    loop-again
-    returns)
+    tie.close (tie.spec Inv-loop μ-loop cut-requires loop-holds mul-d array-read-d mul-d-2 array-read-d-2 add-i loop-less loop-again returns)

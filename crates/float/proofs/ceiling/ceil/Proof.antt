@@ -94,16 +94,5 @@ returns-6 c = sym (far-up (c .before .args .x) (held (c .before)) (c .if1 .left)
 pub ceil-spec : {M : Type 1} → statement M
 ceil-spec =
     tie.close
-    (tie.spec
-    truncating-f64-to-u64-requires
-    int-to-float-f
-    returns
-    returns-2
-    truncating-f64-to-u64-requires-2
-    int-to-float-f-2
-    add-result
-    int-to-float-result
-    returns-3
-    returns-4
-    returns-5
-    returns-6)
+    (tie.spec truncating-f64-to-u64-requires int-to-float-f returns returns-2 truncating-f64-to-u64-requires-2 int-to-float-f-2 add-result
+    int-to-float-result returns-3 returns-4 returns-5 returns-6)

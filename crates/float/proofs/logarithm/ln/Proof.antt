@@ -65,13 +65,4 @@ returns-3 c = sym (ln-case (c .before .args .v) false (isFinite (c .before .args
 
 pub ln-spec : {M : Type 1} → statement M
 ln-spec =
-    tie.close
-    (tie.spec
-    is-finite-requires
-    exponent-requires
-    power-up-requires
-    int-to-float-result
-    log-series-requires
-    returns
-    returns-2
-    returns-3)
+    tie.close (tie.spec is-finite-requires exponent-requires power-up-requires int-to-float-result log-series-requires returns returns-2 returns-3)

@@ -66,12 +66,4 @@ returns-3 c = sym (by-tests (c .before .args .y) (cutOf (c .before .args .y)) fa
 
 pub exp2-spec : {M : Type 1} → statement M
 exp2-spec =
-    tie.close
-    (tie.spec
-    cut-requires
-    returns
-    truncating-f64-to-u64-requires
-    horner-requires
-    power-down-requires
-    returns-2
-    returns-3)
+    tie.close (tie.spec cut-requires returns truncating-f64-to-u64-requires horner-requires power-down-requires returns-2 returns-3)

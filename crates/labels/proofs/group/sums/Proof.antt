@@ -77,20 +77,5 @@ returns c =
 pub sums-spec : {M : Type 1} → statement M
 sums-spec =
     tie.close
-    (tie.spec
-    Inv-loop
-    μ-loop
-    cut-requires
-    loop-holds
-    mul-v
-    array-read-v
-    mul-sums
-    array-read-sums
-    mul-sums-2
-    array-read-sums-2
-    mul-sums-3
-    array-write-sums
-    add-i
-    loop-less
-    loop-again
-    returns)
+    (tie.spec Inv-loop μ-loop cut-requires loop-holds mul-v array-read-v mul-sums array-read-sums mul-sums-2 array-read-sums-2 mul-sums-3
+    array-write-sums add-i loop-less loop-again returns)

@@ -103,22 +103,5 @@ returns c =
 pub labels-spec : {M : Type 1} → statement M
 labels-spec =
     tie.close
-    (tie.spec
-    Inv-loop
-    μ-loop
-    cut-requires
-    loop-holds
-    array-read-if1
-    mul-v
-    array-read-v
-    place-in-requires
-    mul-met
-    array-write-met
-    add-count
-    label-requires
-    mul-labels
-    array-set-from-labels
-    add-i
-    loop-less
-    loop-again
-    returns)
+    (tie.spec Inv-loop μ-loop cut-requires loop-holds array-read-if1 mul-v array-read-v place-in-requires mul-met array-write-met add-count
+    label-requires mul-labels array-set-from-labels add-i loop-less loop-again returns)

@@ -49,15 +49,4 @@ returns-2 c =
 
 pub place-in-spec : {M : Type 1} → statement M
 place-in-spec =
-    tie.close
-    (tie.spec
-    Inv-loop
-    μ-loop
-    loop-holds
-    mul-if1
-    array-read-if1
-    returns
-    add-i
-    loop-less
-    loop-again
-    returns-2)
+    tie.close (tie.spec Inv-loop μ-loop loop-holds mul-if1 array-read-if1 returns add-i loop-less loop-again returns-2)

@@ -78,17 +78,4 @@ returns-2 c =
 
 pub nearest-spec : {M : Type 1} → statement M
 nearest-spec =
-    tie.close
-    (tie.spec
-    Inv-loop
-    μ-loop
-    cut-requires
-    returns
-    array-read-dist
-    loop-holds
-    mul-d
-    array-read-d
-    add-i
-    loop-less
-    loop-again
-    returns-2)
+    tie.close (tie.spec Inv-loop μ-loop cut-requires returns array-read-dist loop-holds mul-d array-read-d add-i loop-less loop-again returns-2)

@@ -92,15 +92,5 @@ returns-4 c =
 pub label-for-spec : {M : Type 1} → statement M
 label-for-spec =
     tie.close
-    (tie.spec
-    cut-requires
-    cut-requires-2
-    returns
-    nearest-requires
-    enum-known-found
-    enum-told
-    returns-2
-    mul-result
-    array-copy-out-result
-    returns-3
+    (tie.spec cut-requires cut-requires-2 returns nearest-requires enum-known-found enum-told returns-2 mul-result array-copy-out-result returns-3
     returns-4)

@@ -94,18 +94,5 @@ returns c =
 pub n-clusters-spec : {M : Type 1} → statement M
 n-clusters-spec =
     tie.close
-    (tie.spec
-    Inv-loop
-    μ-loop
-    cut-requires
-    loop-holds
-    mul-label
-    array-copy-out-label
-    same-family-requires
-    add-stands-from
-    stands-from-requires
-    add-n
-    add-i
-    loop-less
-    loop-again
-    returns)
+    (tie.spec Inv-loop μ-loop cut-requires loop-holds mul-label array-copy-out-label same-family-requires add-stands-from stands-from-requires add-n
+    add-i loop-less loop-again returns)

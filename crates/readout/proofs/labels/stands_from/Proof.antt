@@ -78,15 +78,4 @@ returns-2 c =
 pub stands-from-spec : {M : Type 1} → statement M
 stands-from-spec =
     tie.close
-    (tie.spec
-    Inv-loop
-    μ-loop
-    loop-holds
-    mul-same-family
-    array-copy-out-same-family
-    same-family-requires
-    returns
-    add-i
-    loop-less
-    loop-again
-    returns-2)
+    (tie.spec Inv-loop μ-loop loop-holds mul-same-family array-copy-out-same-family same-family-requires returns add-i loop-less loop-again returns-2)

@@ -75,16 +75,4 @@ returns c =
 pub write-labels-spec : {M : Type 1} → statement M
 write-labels-spec =
     tie.close
-    (tie.spec
-    Inv-loop
-    μ-loop
-    loop-holds
-    mul-out
-    array-copy-out-out
-    mul-t11
-    slice-set-from-out
-    add-i
-    loop-less
-    loop-again
-    same-length
-    returns)
+    (tie.spec Inv-loop μ-loop loop-holds mul-out array-copy-out-out mul-t11 slice-set-from-out add-i loop-less loop-again same-length returns)

@@ -67,16 +67,4 @@ returns c =
 pub write-spec : {M : Type 1} → statement M
 write-spec =
     tie.close
-    (tie.spec
-    Inv-loop
-    μ-loop
-    loop-holds
-    mul-out
-    shared-slice-read-out
-    mul-out-2
-    slice-write-out
-    add-i
-    loop-less
-    loop-again
-    same-length
-    returns)
+    (tie.spec Inv-loop μ-loop loop-holds mul-out shared-slice-read-out mul-out-2 slice-write-out add-i loop-less loop-again same-length returns)

@@ -82,18 +82,5 @@ returns c =
 pub joined-spec : {M : Type 1} → statement M
 joined-spec =
     tie.close
-    (tie.spec
-    Inv-loop
-    μ-loop
-    cut-requires
-    new-requires
-    loop-holds
-    mul-join
-    shared-slice-read-join
-    mul-join-2
-    shared-slice-read-join-2
-    join-requires
-    add-k
-    loop-less
-    loop-again
-    returns)
+    (tie.spec Inv-loop μ-loop cut-requires new-requires loop-holds mul-join shared-slice-read-join mul-join-2 shared-slice-read-join-2 join-requires
+    add-k loop-less loop-again returns)

@@ -65,16 +65,4 @@ returns c =
 pub roots-spec : {M : Type 1} → statement M
 roots-spec =
     tie.close
-    (tie.spec
-    Inv-loop
-    μ-loop
-    cut-requires
-    joined-requires
-    loop-holds
-    find-requires
-    mul-roots
-    array-write-roots
-    add-i
-    loop-less
-    loop-again
-    returns)
+    (tie.spec Inv-loop μ-loop cut-requires joined-requires loop-holds find-requires mul-roots array-write-roots add-i loop-less loop-again returns)

@@ -74,15 +74,5 @@ returns-4 c =
 pub turn-spec : {M : Type 1} → statement M
 turn-spec =
     tie.close
-    (tie.spec
-    carried-requires
-    returns
-    is-before-requires
-    add-walk
-    returns-2
-    same-ends-requires
-    since-requires
-    gained-requires
-    returns-3
-    inserted-requires
-    returns-4)
+    (tie.spec carried-requires returns is-before-requires add-walk returns-2 same-ends-requires since-requires gained-requires returns-3
+    inserted-requires returns-4)

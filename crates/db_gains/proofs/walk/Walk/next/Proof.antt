@@ -46,15 +46,4 @@ returns-2 c =
 
 pub next-spec : {M : Type 1} → statement M
 next-spec =
-    tie.close
-    (tie.spec
-    cut-requires
-    cut-requires-2
-    add-j
-    to-requires
-    returns
-    add-to
-    add-to-2
-    add-to-3
-    to-requires-2
-    returns-2)
+    tie.close (tie.spec cut-requires cut-requires-2 add-j to-requires returns add-to add-to-2 add-to-3 to-requires-2 returns-2)

@@ -67,16 +67,5 @@ returns-2 c =
 pub to-spec : {M : Type 1} → statement M
 to-spec =
     tie.close
-    (tie.spec
-    sub-cut
-    cut-requires
-    mul-a
-    array-copy-out-a
-    sub-cut-2
-    cut-requires-2
-    mul-b
-    array-copy-out-b
-    key-of-requires
-    is-before-requires
-    returns
+    (tie.spec sub-cut cut-requires mul-a array-copy-out-a sub-cut-2 cut-requires-2 mul-b array-copy-out-b key-of-requires is-before-requires returns
     returns-2)

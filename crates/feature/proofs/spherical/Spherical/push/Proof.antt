@@ -96,18 +96,5 @@ returns c =
 pub push-spec : {M : Type 1} → statement M
 push-spec =
     tie.close
-    (tie.spec
-    Inv-loop
-    μ-loop
-    cut-requires
-    loop-holds
-    mul-m
-    element-copy-out-m
-    mul-d
-    array-read-d
-    mul-self
-    element-write-self
-    add-i
-    loop-less
-    loop-again
-    returns)
+    (tie.spec Inv-loop μ-loop cut-requires loop-holds mul-m element-copy-out-m mul-d array-read-d mul-self element-write-self add-i loop-less
+    loop-again returns)

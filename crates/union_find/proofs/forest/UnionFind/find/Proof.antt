@@ -61,18 +61,5 @@ returns c =
 pub find-spec : {M : Type 1} → statement M
 find-spec =
     tie.close
-    (tie.spec
-    Inv-loop
-    μ-loop
-    loop-holds
-    mul-if1
-    element-copy-out-if1
-    mul-up
-    element-copy-out-up
-    mul-grand
-    element-copy-out-grand
-    mul-parent
-    element-write-parent
-    loop-less
-    loop-again
-    returns)
+    (tie.spec Inv-loop μ-loop loop-holds mul-if1 element-copy-out-if1 mul-up element-copy-out-up mul-grand element-copy-out-grand mul-parent
+    element-write-parent loop-less loop-again returns)

@@ -58,19 +58,5 @@ returns-4 c =
 pub link-spec : {M : Type 1} → statement M
 link-spec =
     tie.close
-    (tie.spec
-    returns
-    array-read-if2
-    array-read-if2-2
-    mul-parent
-    array-write-parent
-    mul-parent-2
-    array-write-parent-2
-    array-read-if3
-    array-read-if3-2
-    array-read-rank
-    add-rank
-    array-write-rank
-    returns-2
-    returns-3
-    returns-4)
+    (tie.spec returns array-read-if2 array-read-if2-2 mul-parent array-write-parent mul-parent-2 array-write-parent-2 array-read-if3 array-read-if3-2
+    array-read-rank add-rank array-write-rank returns-2 returns-3 returns-4)

@@ -54,14 +54,4 @@ returns c =
 
 pub new-spec : {M : Type 1} → statement M
 new-spec =
-    tie.close
-    (tie.spec
-    Inv-loop
-    μ-loop
-    loop-holds
-    mul-parent
-    array-write-parent
-    add-i
-    loop-less
-    loop-again
-    returns)
+    tie.close (tie.spec Inv-loop μ-loop loop-holds mul-parent array-write-parent add-i loop-less loop-again returns)
