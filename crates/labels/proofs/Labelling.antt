@@ -11,28 +11,28 @@ use lib.IntN.{ℤ, pos, negsuc}
 use lib.ListN.{length, take, drop, getD, set, replicate, length-set, length-take, length-replicate, take-append-drop}
 use lib.Seq.{drop-cons, take-suc-set, drop-set-lt, append-snoc, set-getD, length-take-le}
 use borrow.Author.Tests.{eq-eqb, ne-eqb}
+use Rattle.lists.specs.Rest.{rest}
+use Rattle.lists.specs.Laws.Rest.{rest-step, rest-end, cut-take}
 use Rattle.union_find.specs.Forest.{places}
-use Rattle.labels.proofs.Cuts.{cut-take, left-next, left-none}
 use Rattle.labels.specs.Label.{placeIn, meet, labelsFrom, labelsOf, labelsIn}
 use Rattle.labels.specs.Laws.Label.{place-le, meet-old, meet-new, metBy}
 
 -- ---- the search of a root among the first `count` of those met
 module _ (v count i : ℕ) (met : List ℕ) (h : i < count) (fits : count ≤ length met) where
-  place-turn : placeIn v (drop i (take count met)) ≡ cond (eqb (getD met i 0) v) 0 (suc (placeIn v (drop (suc i) (take count met))))
+  place-turn : placeIn v (rest count i met) ≡ cond (eqb (getD met i 0) v) 0 (suc (placeIn v (rest count (i + 1) met)))
   unfolding placeIn
-  place-turn = ap (placeIn v) (left-next count i met 0 h fits)
+  place-turn = ap (placeIn v) (rest-step count i met 0 h fits)
 
-  pub place-here : getD met i 0 ≡ v → placeIn v (drop i (take count met)) ≡ 0
-  place-here e = place-turn ∙ ap (λ (t : Bool). cond t 0 (suc (placeIn v (drop (suc i) (take count met))))) (eq-eqb (getD met i 0) v e)
+  pub place-here : getD met i 0 ≡ v → placeIn v (rest count i met) ≡ 0
+  place-here e = place-turn ∙ ap (λ (t : Bool). cond t 0 (suc (placeIn v (rest count (i + 1) met)))) (eq-eqb (getD met i 0) v e)
 
-  pub place-next : getD met i 0 ≢ v → placeIn v (drop i (take count met)) ≡ suc (placeIn v (drop (i + 1) (take count met)))
+  pub place-next : getD met i 0 ≢ v → placeIn v (rest count i met) ≡ suc (placeIn v (rest count (i + 1) met))
   place-next e =
-      place-turn ∙ ap (λ (t : Bool). cond t 0 (suc (placeIn v (drop (suc i) (take count met))))) (ne-eqb (getD met i 0) v e)
-      ∙ ap (λ (k : ℕ). suc (placeIn v (drop k (take count met)))) (sym (add-one i))
+      place-turn ∙ ap (λ (t : Bool). cond t 0 (suc (placeIn v (rest count (i + 1) met)))) (ne-eqb (getD met i 0) v e)
 
-pub place-none : (v count i : ℕ) (met : List ℕ) → count ≤ i → placeIn v (drop i (take count met)) ≡ 0
+pub place-none : (v count i : ℕ) (met : List ℕ) → count ≤ i → placeIn v (rest count i met) ≡ 0
 unfolding placeIn
-place-none v count i met h = ap (placeIn v) (left-none count i met h)
+place-none v count i met h = ap (placeIn v) (rest-end count i met h)
 
 pub place-most : (v count : ℕ) (met : List ℕ) → placeIn v (take count met) ≤ count
 place-most v count met = omega (arith, place-le v (take count met), length-take count met)
@@ -44,11 +44,11 @@ pub record Labelling (mask : List Bool) (roots : List ℕ) (end : ℕ) (labels :
   pub few : count ≤ i
   pub within : i ≤ end
   -- those written, and those that the places left will get
-  pub made : take i labels ++ labelsFrom (take count met) (drop i (take end mask)) (drop i roots) ≡ labelsOf (take end mask) roots
-  pub rest : drop i labels ≡ replicate (places - i) (negsuc 0)
+  pub made : take i labels ++ labelsFrom (take count met) (rest end i mask) (drop i roots) ≡ labelsOf (take end mask) roots
+  pub unset : drop i labels ≡ replicate (places - i) (negsuc 0)
 
 pub labels-start : (mask : List Bool) (roots : List ℕ) (end : ℕ) → Labelling mask roots end (replicate places (negsuc 0)) (replicate places 0) 0 0
-unfolding labelsOf
+unfolding labelsOf rest
 labels-start mask roots end =
     record {
       size = length-replicate places (negsuc 0);
@@ -56,7 +56,7 @@ labels-start mask roots end =
       few = omega arith;
       within = omega arith;
       made = refl;
-      rest = refl;
+      unset = refl;
     }
 
 module _ (mask : List Bool) (roots : List ℕ) (end : ℕ) (labels : List ℤ) (met : List ℕ) (count i : ℕ) (l : Labelling mask roots end labels met count i)
@@ -78,7 +78,7 @@ module _ (mask : List Bool) (roots : List ℕ) (end : ℕ) (labels : List ℤ) (
   unwritten : getD labels i (negsuc 0) ∷ drop (suc i) labels ≡ replicate (suc (places - suc i)) (negsuc 0)
   unwritten =
       let q : places - i ≡ suc (places - suc i) = omega arith in
-      sym (drop-cons labels i (negsuc 0) (omega (arith, l .size))) ∙ l .rest ∙ ap (λ (k : ℕ). replicate k (negsuc 0)) q
+      sym (drop-cons labels i (negsuc 0) (omega (arith, l .size))) ∙ l .unset ∙ ap (λ (k : ℕ). replicate k (negsuc 0)) q
 
   labels-next : (b : Bool) → getD mask i false ≡ b → (met′ : List ℕ) (count′ : ℕ) → length met′ ≡ places → count′ ≤ i + 1 → take count′ met′ ≡ metBy us b v
       → Labelling mask roots end (set labels i (z b)) met′ count′ (i + 1)
@@ -89,19 +89,19 @@ module _ (mask : List Bool) (roots : List ℕ) (end : ℕ) (labels : List ℤ) (
         room = room′;
         few = few′;
         within = omega arith;
-        made = ap (λ (k : ℕ). take k (set labels i (z b)) ++ labelsFrom (take count′ met′) (drop k (take end mask)) (drop k roots)) (add-one i)
-            ∙ ap₂ (λ (ls : List ℤ) (us′ : List ℕ). ls ++ labelsFrom us′ (drop (suc i) (take end mask)) (drop (suc i) roots))
+        made = ap (λ (k : ℕ). take k (set labels i (z b)) ++ labelsFrom (take count′ met′) (rest end (i + 1) mask) (drop k roots)) (add-one i)
+            ∙ ap₂ (λ (ls : List ℤ) (us′ : List ℕ). ls ++ labelsFrom us′ (rest end (i + 1) mask) (drop (suc i) roots))
             (take-suc-set labels i (z b) (omega (arith, l .size))) e
-            ∙ append-snoc (take i labels) (z b) (labelsFrom (metBy us b v) (drop (suc i) (take end mask)) (drop (suc i) roots))
+            ∙ append-snoc (take i labels) (z b) (labelsFrom (metBy us b v) (rest end (i + 1) mask) (drop (suc i) roots))
             ∙ ap₂ (λ (bs : List Bool) (rs : List ℕ). take i labels ++ labelsFrom us bs rs) (sym mask-drop) (sym (drop-cons roots i 0 (omega arith)))
             ∙ l .made;
-        rest = let q : places - (i + 1) ≡ places - suc i = omega arith in
+        unset = let q : places - (i + 1) ≡ places - suc i = omega arith in
             ap (λ (k : ℕ). drop k (set labels i (z b))) (add-one i) ∙ drop-set-lt (suc i) labels i (z b) (omega arith)
             ∙ ap (drop 1) unwritten ∙ ap (λ (k : ℕ). replicate k (negsuc 0)) (sym q);
       }
     where
-      mask-drop : drop i (take end mask) ≡ b ∷ drop (suc i) (take end mask)
-      mask-drop = left-next end i mask false h (omega arith) ∙ ap (λ (t : Bool). t ∷ drop (suc i) (take end mask)) eb
+      mask-drop : rest end i mask ≡ b ∷ rest end (i + 1) mask
+      mask-drop = rest-step end i mask false h (omega arith) ∙ ap (λ (t : Bool). t ∷ rest end (i + 1) mask) eb
 
   -- outside the mask, with an old root, and with a new one
   pub label-out : getD mask i false ≡ false → Labelling mask roots end labels met count (i + 1)
@@ -136,11 +136,11 @@ pub labels-end :
 unfolding labelsIn labelsFrom
 labels-end mask roots n end labels met count en lm l =
     sym (take-append-drop end labels)
-    ∙ ap₂ _++_ (written ∙ ap (λ (bs : List Bool). labelsOf bs roots) (cut-take n end mask (omega arith)))
-    (l .rest ∙ ap (λ (k : ℕ). replicate (places - k) (negsuc 0)) en)
+    ∙ ap₂ _++_ (written ∙ ap (λ (bs : List Bool). labelsOf bs roots) (cut-take end n places mask en lm))
+    (l .unset ∙ ap (λ (k : ℕ). replicate (places - k) (negsuc 0)) en)
   where
     written : take end labels ≡ labelsOf (take end mask) roots
     written =
         sym (append-nil (take end labels))
-        ∙ ap (λ (bs : List Bool). take end labels ++ labelsFrom (take count met) bs (drop end roots)) (sym (left-none end end mask (omega arith)))
+        ∙ ap (λ (bs : List Bool). take end labels ++ labelsFrom (take count met) bs (drop end roots)) (sym (rest-end end end mask (omega arith)))
         ∙ l .made

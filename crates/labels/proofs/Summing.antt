@@ -14,7 +14,8 @@ use lib.Ieee.{Float, binary64, add, ofBits, nan}
 use borrow.Author.Tests.{eq-eqb, ne-eqb}
 use Rattle.union_find.specs.Laws.Union.{table-length, table-at}
 use Rattle.union_find.specs.Forest.{places, table}
-use Rattle.labels.proofs.Cuts.{cut-take, left-next, left-none}
+use Rattle.lists.specs.Rest.{rest}
+use Rattle.lists.specs.Laws.Rest.{rest-step, rest-end, cut-take}
 use Rattle.labels.specs.Group.{sumFrom, sumsOf}
 use Rattle.labels.specs.Laws.Group.{sum-step, sum-none}
 
@@ -24,9 +25,10 @@ pub record Summing (roots : List ℕ) (weights : List Float) (end : ℕ) (sums :
   pub within : i ≤ end
   pub made :
       (v : ℕ) → v < places →
-      sumFrom (getD sums v nan) v (drop i roots) (drop i (take end weights)) ≡ sumFrom (ofBits binary64 0) v roots (take end weights)
+      sumFrom (getD sums v nan) v (drop i roots) (rest end i weights) ≡ sumFrom (ofBits binary64 0) v roots (take end weights)
 
 pub sums-start : (roots : List ℕ) (weights : List Float) (end : ℕ) → Summing roots weights end (replicate places (ofBits binary64 0)) 0
+unfolding rest
 sums-start roots weights end =
     record {
       size = length-replicate places (ofBits binary64 0);
@@ -51,10 +53,10 @@ module _ (roots : List ℕ) (weights : List Float) (end : ℕ) (sums : List Floa
         size = size′;
         within = omega arith;
         made = λ v hv.
-            ap (λ (k : ℕ). sumFrom (getD sums′ v nan) v (drop k roots) (drop k (take end weights))) (add-one i)
-            ∙ ap (λ (s : Float). sumFrom s v (drop (suc i) roots) (drop (suc i) (take end weights))) (e v hv)
-            ∙ sym (sum-step v roots i (omega arith) (getD sums v nan) w (drop (suc i) (take end weights)))
-            ∙ ap (λ (ws : List Float). sumFrom (getD sums v nan) v (drop i roots) ws) (sym (left-next end i weights nan h (omega arith)))
+            ap (λ (k : ℕ). sumFrom (getD sums′ v nan) v (drop k roots) (rest end (i + 1) weights)) (add-one i)
+            ∙ ap (λ (s : Float). sumFrom s v (drop (suc i) roots) (rest end (i + 1) weights)) (e v hv)
+            ∙ sym (sum-step v roots i (omega arith) (getD sums v nan) w (rest end (i + 1) weights))
+            ∙ ap (λ (ws : List Float). sumFrom (getD sums v nan) v (drop i roots) ws) (sym (rest-step end i weights nan h (omega arith)))
             ∙ t .made v hv;
       }
 
@@ -88,9 +90,9 @@ sums-end roots weights n end sums en lw t =
     (λ v hv.
     let h : v < places = omega (arith, t .size) in
     sym (sum-none (getD sums v nan) v (drop end roots))
-    ∙ ap (λ (ws : List Float). sumFrom (getD sums v nan) v (drop end roots) ws) (sym (left-none end end weights (omega arith)))
+    ∙ ap (λ (ws : List Float). sumFrom (getD sums v nan) v (drop end roots) ws) (sym (rest-end end end weights (omega arith)))
     ∙ t .made v h
-    ∙ ap (λ (ws : List Float). sumFrom (ofBits binary64 0) v roots ws) (cut-take n end weights (omega arith))
+    ∙ ap (λ (ws : List Float). sumFrom (ofBits binary64 0) v roots ws) (cut-take end n places weights en lw)
     ∙ sym (table-at places sum nan v h))
   where
     sum : ℕ → Float

@@ -3,19 +3,21 @@ use Prim.Native.Nat.{_+_, _-_, _≤_}
 use mathlib.Core.Path.{_≡_}
 use native.Mathlib.Omega.{arith}
 use borrow.Author.Needs.{needs}
-use lib.ListN.{take, drop}
+use lib.ListN.{take}
+use Rattle.lists.specs.Rest.{rest}
 use Rattle.labels.specs.Label.{placeIn}
 use Rattle.labels.proofs.Labelling.{place-here, place-next, place-none}
 use Rattle.labels.proofs.label.place_in.Statement.{statement}
 use Rattle.labels.proofs.label.place_in.Tie as tie
 
 abbrev Inv-loop : tie.InvT-loop
-Inv-loop count v met i₀ i = (i ≤ count) × (i + placeIn v (drop i (take count met)) ≡ placeIn v (take count met))
+Inv-loop count v met i₀ i = (i ≤ count) × (i + placeIn v (rest count i met) ≡ placeIn v (take count met))
 
 abbrev μ-loop : tie.MeasureT-loop
 μ-loop count v met i₀ i = count - i
 
 loop-holds : tie.Need-loop-holds Inv-loop μ-loop
+unfolding rest
 loop-holds c = (omega arith, omega arith)
 
 mul-if1 : tie.Need-mul-if1 Inv-loop μ-loop
