@@ -36,6 +36,7 @@ back x l m = rw reverse-cons (append-assoc (reverse l) (x ∷ []) m)
 same : (l : List Classed) (i : ℕ) → i < length l → reverse (getD l i nothing ∷ reverse (take i l)) ++ drop (i + 1) l ≡ l
 same l i h = back (getD l i nothing) (reverse (take i l)) (drop (i + 1) l) ∙ rw (reverse-reverse, add-one) (sym (split-at l i nothing h))
 
+-- nothing older: nothing to merge
 pub settled-first : (k i : ℕ) (l : List Classed) → i ≡ 0 → 0 < length l → settled k i l ≡ l
 unfolding settled
 settled-first k i l e h = rw e (same l 0 h)
@@ -86,6 +87,7 @@ module _ (k i j : ℕ) (l : List Classed) (e : i ≡ j + 1) (h : i < length l) w
       let g : i ≡ suc j = omega arith in
       ap (λ (r : List Classed). reverse (carry k (getD l i nothing) r) ++ drop (i + 1) l) (ap (λ (n : ℕ). reverse (take n l)) g ∙ reverse-take l j q)
 
+  -- the next older one is of another class: the carry ends
   pub settled-other : (getD l j nothing .class ≡ getD l i nothing .class → ⊥) → settled k i l ≡ l
   unfolding carry
   settled-other n =
@@ -96,6 +98,7 @@ module _ (k i j : ℕ) (l : List Classed) (e : i ≡ j + 1) (h : i < length l) w
   newer-tail : getD l i nothing ∷ drop (i + 1) l ≡ drop (j + 1) l
   newer-tail = ap (λ (n : ℕ). getD l i nothing ∷ drop n l) (add-one i) ∙ sym (drop-cons l i nothing h) ∙ ap (λ (n : ℕ). drop n l) e
 
+  -- one more of the class, and still at most 6
   pub settled-next : getD l j nothing .class ≡ getD l i nothing .class → k + 2 ≤ cap → settled k i l ≡ settled (k + 1) j l
   unfolding carry settled
   settled-next n m =
@@ -104,6 +107,7 @@ module _ (k i j : ℕ) (l : List Classed) (e : i ≡ j + 1) (h : i < length l) w
       (back (getD l i nothing) (carry (k + 1) (getD l j nothing) (reverse (take j l))) (drop (i + 1) l)
       ∙ ap (λ (r : List Classed). reverse (carry (k + 1) (getD l j nothing) (reverse (take j l))) ++ r) newer-tail)
 
+  -- over 6 of the class: the two oldest merge, and the carry goes on
   pub settled-pair : getD l j nothing .class ≡ getD l i nothing .class → cap < k + 2 → settled k i l ≡ settled 0 j (pairMerged j l)
   unfolding carry settled
   settled-pair n m =
@@ -125,6 +129,7 @@ module _ (n j : ℕ) (cs : List ℕ) (bs : List Bucket) (k : n ≤ length bs) (e
   pub class-at : j < n → getD (take n (classed cs bs)) j nothing .class ≡ getD cs j 0
   class-at h = ap (λ (x : Classed). x .class) (getD-take n (classed cs bs) j nothing h ∙ classed-getD cs bs j _ e)
 
+  -- two places merged in both arrays are merged in the row
   pub merged-both :
       (c : ℕ) (b : Bucket) → j + 1 < n → c ≡ nextClass (getD cs (j + 1) 0) →
       b ≡ mergedOf (getD bs j (nothing .bucket)) (getD bs (j + 1) (nothing .bucket)) →
@@ -142,6 +147,7 @@ module _ (n j : ℕ) (cs : List ℕ) (bs : List Bucket) (k : n ≤ length bs) (e
       ∙ ap (λ (m : ℕ). pairOf (getD l j nothing) (getD l m nothing)) (add-one j) in
       rw (classed-set cs bs j c b e, take-set n (classed cs bs) j (with-class c b), add-one j) (pair-is j l (with-class c b) q v)
 
+  -- a bucket put at the end and settled is pushed
   pub pushed-is : (new : Bucket) → n < length bs → settled 0 n (take (n + 1) (classed (set cs n 0) (set bs n new))) ≡ pushOf (take n (classed cs bs)) new
   unfolding settled pushOf
   pushed-is new h =

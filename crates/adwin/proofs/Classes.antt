@@ -15,6 +15,7 @@ use Rattle.lists.specs.Laws.Shift.{shift-step}
 abbrev pub with-class : ℕ → Bucket → Classed
 with-class c b = record { class = c; bucket = b }
 
+-- as many as there are buckets
 pub classed-length : (cs : List ℕ) (bs : List Bucket) → length cs ≡ length bs → length (classed cs bs) ≡ length bs
 unfolding classed
 classed-length [] [] h = refl
@@ -22,6 +23,7 @@ classed-length [] (b ∷ bs) h = absurd (omega arith)
 classed-length (c ∷ cs) [] h = absurd (omega arith)
 classed-length (c ∷ cs) (b ∷ bs) h = ap suc (classed-length cs bs (omega arith))
 
+-- a place read in both arrays
 pub classed-getD :
     (cs : List ℕ) (bs : List Bucket) (i : ℕ) (d : Bucket) → length cs ≡ length bs →
     getD (classed cs bs) i (with-class 0 d) ≡ with-class (getD cs i 0) (getD bs i d)
@@ -32,6 +34,7 @@ classed-getD (c ∷ cs) [] i d h = absurd (omega arith)
 classed-getD (c ∷ cs) (b ∷ bs) zero d h = refl
 classed-getD (c ∷ cs) (b ∷ bs) (suc i) d h = classed-getD cs bs i d (omega arith)
 
+-- a place set in both arrays
 pub classed-set :
     (cs : List ℕ) (bs : List Bucket) (i c : ℕ) (b : Bucket) → length cs ≡ length bs →
     classed (set cs i c) (set bs i b) ≡ set (classed cs bs) i (with-class c b)
@@ -42,6 +45,7 @@ classed-set (x ∷ cs) [] i c b h = absurd (omega arith)
 classed-set (x ∷ cs) (y ∷ bs) zero c b h = refl
 classed-set (x ∷ cs) (y ∷ bs) (suc i) c b h = ap (λ (l : List Classed). with-class x y ∷ l) (classed-set cs bs i c b (omega arith))
 
+-- the row without its classes
 pub buckets-are : (n : ℕ) (cs : List ℕ) (bs : List Bucket) → length cs ≡ length bs → bucketsOf (take n (classed cs bs)) ≡ take n bs
 unfolding classed
 buckets-are zero cs bs h = refl

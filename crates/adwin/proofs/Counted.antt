@@ -11,6 +11,7 @@ use borrow.Author.Tests.{ltb-false}
 abbrev top : Float
 top = ofBits binary64 0x43f0_0000_0000_0000
 
+-- not above 0: none
 pub none : (x : Float) → lt (ofBits binary64 0) x ≡ false → 0 ≡ toUnsigned 64 x
 unfolding lt ofBits toUnsigned
 none nan h = refl
@@ -21,6 +22,7 @@ none (fin false m e) h =
     let z : m * up e ≡ 0 = omega (arith, ltb-false (0 * 1 * down e) (m * up e * 1) h) in
     rw (z, zero-div)
 
+-- 2^64 or more: the largest number
 pub all-ones : (x : Float) → lt (ofBits binary64 0) x ≡ true → lt x top ≡ false → 18446744073709551615 ≡ toUnsigned 64 x
 unfolding lt ofBits toUnsigned
 all-ones nan h g = absurd (true≢false (sym h))

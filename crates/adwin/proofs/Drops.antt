@@ -78,6 +78,7 @@ none-drop d s = go (le (two ⊗ side) (s .width))
     go true = refl
     go false = refl
 
+-- a window that must drop holds a bucket
 pub some-held : (d : Float) (s : Sums) (n : ℕ) (l : List Classed) → mustDrop d s (bucketsOf (take n l)) ≡ true → 0 < n
 some-held d s zero l h = absurd (true≢false (sym h ∙ none-drop d s))
 some-held d s (suc n) l h = omega arith
@@ -126,6 +127,7 @@ pub record Searching (u : Window) (s : Adwin) (answer : Verdict) : Type 0 where
   pub room : s .count ≤ places
   pub left : resumed answer (view s) ≡ shrunk u
 
+-- before the first bucket is dropped
 pub search-starts : (s : Adwin) → s .count ≤ places → Searching (view s) s Quiet
 unfolding shrunk
 search-starts s h = record { room = h; left = refl }
@@ -138,6 +140,7 @@ or-false : (b : Bool) → b ≡ (b || false)
 or-false true = refl
 or-false false = refl
 
+-- one more is dropped
 pub search-goes-on :
     (u : Window) (s : Adwin) (answer : Verdict) (r : Adwin) → Searching u s answer → mustDropIn (view s) ≡ true → r .count + 1 ≡ s .count → view r
     ≡ oldestDropped (view s) → Searching u r Alarm
@@ -155,6 +158,7 @@ search-goes-on u s answer r c h n e =
           ∙ c .left;
     }
 
+-- none must be dropped
 pub search-ends : (u : Window) (s : Adwin) (answer : Verdict) → Searching u s answer → mustDropIn (view s) ≡ false → outcomeWith answer s ≡ shrunk u
 search-ends u s answer c h =
     ap (λ (b : Bool). record { alarm = b; refusal = numberOf answer; window = view s }) (or-false (rings answer))

@@ -35,6 +35,7 @@ pub record Closing (a : Adwin) (p m : ℕ) (s : Adwin) (q : ℕ) : Type 0 where
   pub alike : Alike a s
   pub left : take q (rowOf s) ++ rest (a .count) (q + 1) (rowOf s) ≡ without p (heldOf a)
 
+-- before the first move
 pub closing-starts :
     (a : Adwin) (p m : ℕ) → length (a .buckets) ≡ places → length (a .classes) ≡ places → m + 1 ≡ a .count → a .count ≤ places → p ≤ m →
     Closing a p m a p
@@ -61,6 +62,7 @@ movedDown s q d = record {
   taken = s .taken;
 }
 
+-- one more has moved down
 pub closing-steps : (a : Adwin) (p m : ℕ) (s : Adwin) (q : ℕ) (d : Bucket) → Closing a p m s q → q < m → Closing a p m (movedDown s q d) (q + 1)
 closing-steps a p m s q d c h =
     let b : length (s .buckets) ≡ places = c .alike .buckets in
@@ -77,6 +79,7 @@ closing-steps a p m s q d c h =
       left = removed-both (a .count) q (s .classes) (s .buckets) d (omega arith) (omega arith) (k ∙ sym b) ∙ c .left;
     }
 
+-- all have moved: the bucket at p is gone
 pub closing-ends : (a : Adwin) (p m : ℕ) (s : Adwin) (q : ℕ) → Closing a p m s q → m ≤ q → take m (rowOf s) ≡ without p (heldOf a)
 closing-ends a p m s q c h =
     let l : m + 1 ≡ a .count = c .last in

@@ -24,6 +24,7 @@ module _ (a : Adwin) (b : length (a .buckets) ≡ places) (k : length (a .classe
       (λ h. lt-ltb (a .count) places h ∙ sym (lt-ltb (length (heldOf a)) places (omega (arith, held-count))))
       (λ h. le-ltb (a .count) places (omega arith) ∙ sym (le-ltb (length (heldOf a)) places (omega (arith, held-count))))
 
+  -- the code's test is the definition's
   pub room-is : (ltb (a .taken) limit && ltb (a .count) places) ≡ hasRoom (view a)
   room-is = ap (λ (t : Bool). ltb (a .taken) limit && t) same-test
 

@@ -45,11 +45,13 @@ module _ (a : Adwin) (x : Float) (w : Adwin) (v : Float) (p : Pushed a x w v) wh
       ∙ ap (λ (y : Float). counted u x y m) (p .variance)
       ∙ ap (λ (n : ℕ). counted u x (varianceWith (a .width) (a .total) (a .variance) x) n) (e ∙ ap (λ (b : Bool). cond b 0 (a .«since_check» + 1)) (sym d))
 
+  -- an update that is not due
   pub unsearched : w .«since_check» < 31 → quiet (counted (view w) x v (w .«since_check» + 1)) ≡ updateOf (view a) x
   unsearched h =
       let d : due (view a) ≡ false = lt-leb interval (a .«since_check» + 1) (omega (arith, since-is)) in
       ap quiet (grown-is (w .«since_check» + 1) false d (ap (λ (k : ℕ). k + 1) since-is)) ∙ not-due (view a) x (p .finite) (p .room) d
 
+  -- an update that is due
   pub searched : 31 ≤ w .«since_check» → shrunk (counted (view w) x v 0) ≡ updateOf (view a) x
   searched h =
       let d : due (view a) ≡ true = le-leb interval (a .«since_check» + 1) (omega (arith, since-is)) in

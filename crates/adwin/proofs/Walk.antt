@@ -114,6 +114,7 @@ pub walk-starts :
     Carrying a n a n 0
 walk-starts a b c n e r = record { within = omega arith; room = r; few = omega arith; alike = record { buckets = b; classes = c; figures = refl }; left = refl }
 
+-- the walk's end is the push
 pub walk-ends :
     (a : Adwin) (new : Bucket) (s : Adwin) (i k : ℕ) → length (a .buckets) ≡ places → length (a .classes) ≡ places → a .count < places →
     Carrying (storedAt a (a .count) 0 new (a .count + 1)) (a .count) s i k → i ≡ 0 → view s ≡ withHeld (view a) (pushOf (heldOf a) new)

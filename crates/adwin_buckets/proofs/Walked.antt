@@ -18,6 +18,7 @@ use Rattle.adwin_buckets.specs.Inside.Search.{searchFrom, pastBucket}
 abbrev pub foundIn : Search → List Bucket → Bool
 foundIn s l = cond (s .fails) true (someFails (s .test) (s .n0) (s .t0) (rest (s .at + s .left) (s .at) l))
 
+-- from its start it finds what the definition says
 pub new-finds : (c : CutTest) (n : ℕ) (l : List Bucket) → foundIn (searchFrom c n (length l)) l ≡ someFails c nought nought (take n l)
 new-finds c n l =
     let e : 0 + min n (length l) ≡ min n (length l) = omega arith in
@@ -45,6 +46,7 @@ module _ (s : Search) where
   abbrev cut : Bucket → Bool
   cut b = cutFails (s .test) (s .n0 ⊕ b .size) (s .t0 ⊕ b .total)
 
+  -- past a bucket it finds the same
   pub past-finds : (l : List Bucket) (d : Bucket) → 0 < s .left → s .at + s .left ≤ length l → foundIn (pastBucket s (getD l (s .at) d)) l ≡ foundIn s l
   unfolding someFails
   past-finds l d h k =
@@ -54,6 +56,7 @@ module _ (s : Search) where
       ∙ ap (λ (z : ℕ). cond (s .fails) true (cond (cut b) true (someFails (s .test) (s .n0 ⊕ b .size) (s .t0 ⊕ b .total) (rest z (s .at + 1) l)))) e
       ∙ ap (λ (r : List Bucket). cond (s .fails) true (someFails (s .test) (s .n0) (s .t0) r)) (sym (rest-step (s .at + s .left) (s .at) l d (omega arith) k))
 
+  -- with no bucket left it has found what it says
   pub end-finds : (l : List Bucket) → s .left ≤ 0 → foundIn s l ≡ s .fails
   unfolding someFails
   end-finds l h =
@@ -64,5 +67,6 @@ module _ (s : Search) where
     pub past-fewer : pastBucket s b .left < s .left
     past-fewer = fewer (cut b) (s .left) h
 
+    -- it stays within the slice
     pub past-within : pastBucket s b .at + pastBucket s b .left ≤ s .at + s .left
     past-within = no-further (cut b) (s .at) (s .left) h

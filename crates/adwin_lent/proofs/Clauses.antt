@@ -50,6 +50,7 @@ module _ {M : Type 1} (𝓤 : URA M) (h : Adwin) (n : Float) (v : Verdict) (w : 
       fact-use 𝓤 (Refused h v w) (via 𝓤 (sep 𝓤 R I) (snd∗ 𝓤 S (sep 𝓤 R I)) (fst∗ 𝓤 R I)) (λ f.
       fact-use 𝓤 (Ignored h n w) (via 𝓤 (sep 𝓤 R I) (snd∗ 𝓤 S (sep 𝓤 R I)) (snd∗ 𝓤 R I)) (λ i. factI 𝓤 (Claim h n v w) (Three 𝓤 h n v w) (s, (f, i)))))
 
+  -- the claim gives all three clauses
   pub three-in : {H : Heap 𝓤} {A : Atoms 𝓤} → Given 𝓤 H A → Claim h n v w → ent 𝓤 (emp 𝓤) (Three 𝓤 h n v w)
   three-in W c =
       qed W [] {P = Three 𝓤 h n v w} (use0 W (raw (fact 𝓤 (Ignored h n w))) (factI 𝓤 _ (emp 𝓤) (c .1 .1)) $ use0 W (raw (fact 𝓤 (Refused h v w)))

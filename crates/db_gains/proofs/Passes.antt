@@ -42,6 +42,7 @@ module _ (lambda t : Float) (s : Pass) (l : Link) where
     inserts (inl h) = rw (off, le-ltb (s .walk .p) (s .count) h)
     inserts (inr h) = rw (off, lt-ltb (s .walk .p) (s .count) (h .0), h .1, h .2)
 
+    -- the key has no link
     pub inserted-turn : (r : Turn) → None → r ≡ insertedOf lambda t s l → r ≡ turnOf lambda t s l
     inserted-turn r none is = is ∙ sym (inserts none)
 

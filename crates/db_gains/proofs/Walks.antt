@@ -23,5 +23,6 @@ module _ (ids : List MicroId) (t : Float) (w : Walk) where
     pub next-in : (r : Walk) → r ≡ walkTo ids t w i (j + 1) → j + 1 < k → r ≡ nextOf ids k t w
     next-in r is h = is ∙ rw (← ei, ← ej, lt-ltb (j + 1) k h)
 
+    -- the row is done: on to the next
     pub next-out : (r : Walk) → r ≡ walkTo ids t w (i + 1) (i + 1 + 1) → k ≤ j + 1 → r ≡ nextOf ids k t w
     next-out r is h = is ∙ rw (← ei, ← ej, le-ltb (j + 1) k h)

@@ -24,10 +24,12 @@ module _ (id : MicroId) (n i : ℕ) (ids : List MicroId) where
   unfolding placeAmong
   place-here z h k e = rw (rest-step n i ids z, eq-eqb _ _ e)
 
+  -- another one stands at i
   pub place-next : (z : MicroId) → i < n → n ≤ length ids → getD ids i z .0 ≢ id .0 → placeAmong (rest n i ids) id ≡ suc (placeAmong (rest n (i + 1) ids) id)
   unfolding placeAmong
   place-next z h k e = rw (rest-step n i ids z, ne-eqb _ _ e)
 
+  -- none is left
   pub place-none : n ≤ i → placeAmong (rest n i ids) id ≡ 0
   unfolding placeAmong
   place-none h = rw (rest-end n i ids)
@@ -59,6 +61,7 @@ module _ (ids : List MicroId) (strong : List Bool) (lambda t dense : Float) wher
     join-take x y hx hy ex ey e =
         rw (rest-step n i ls z, e, ← ex, ← ey, add-one, add-one, pairs-snoc k xs ys x y hx hy, append-snoc (pairsOf (take k xs) (take k ys)) (x, y))
 
+    -- a link that does not join
     pub join-skip :
         joinsBy ids strong lambda t dense (getD ls i z) ≡ false →
         pairsOf (take k xs) (take k ys) ++ joinedBy ids strong lambda t dense (rest n (i + 1) ls)
@@ -66,6 +69,7 @@ module _ (ids : List MicroId) (strong : List Bool) (lambda t dense : Float) wher
     unfolding joinedBy
     join-skip e = rw (rest-step n i ls z, e)
 
+  -- no link is left
   pub join-end : (n i : ℕ) (ls : List Link) (ps : List (ℕ × ℕ)) → n ≤ i → ps ++ joinedBy ids strong lambda t dense (rest n i ls) ≡ ps
   unfolding joinedBy
   join-end n i ls ps h = rw (rest-end n i ls) (append-nil ps)

@@ -23,10 +23,12 @@ module _ (id : MicroId) (n i : ℕ) (ids : List MicroId) where
   unfolding any
   among-here z h k e = rw (rest-step n i ids z, eq-eqb _ _ e)
 
+  -- another one stands at i
   pub among-next : (z : MicroId) → i < n → n ≤ length ids → getD ids i z .0 ≢ id .0 → isAmong (rest n (i + 1) ids) id ≡ isAmong (rest n i ids) id
   unfolding any
   among-next z h k e = rw (rest-step n i ids z, ne-eqb _ _ e)
 
+  -- none is left
   pub among-end : n ≤ i → isAmong (rest n i ids) id ≡ false
   unfolding any
   among-end h = rw (rest-end n i ids)
@@ -38,9 +40,11 @@ module _ (lambda floor t : Float) (ids : List MicroId) (l : Link) where
       not b ≡ staysAmong lambda floor t ids l
   both-held f b x y e c = rw (x, y, ← e, c)
 
+  -- the higher end is lost
   pub lost-hi : isAmong ids (l .lo) ≡ true → isAmong ids (l .hi) ≡ false → false ≡ staysAmong lambda floor t ids l
   lost-hi x y = rw (x, y)
 
+  -- the lower end is lost
   pub lost-lo : isAmong ids (l .lo) ≡ false → false ≡ staysAmong lambda floor t ids l
   lost-lo x = rw x
 
@@ -50,10 +54,12 @@ module _ (f : Link → Float) (k : Link) (n i : ℕ) (ls : List Link) where
   unfolding ofLink
   link-here z h g e = rw (rest-step n i ls z, e)
 
+  -- another link stands at i
   pub link-next : (z : Link) → i < n → n ≤ length ls → sameEnds (getD ls i z) k ≡ false → ofLink f k (rest n (i + 1) ls) ≡ ofLink f k (rest n i ls)
   unfolding ofLink
   link-next z h g e = rw (rest-step n i ls z, e)
 
+  -- no link is left
   pub link-end : n ≤ i → ofLink f k (rest n i ls) ≡ nought
   unfolding ofLink
   link-end h = rw (rest-end n i ls)

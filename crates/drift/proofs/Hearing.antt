@@ -27,6 +27,7 @@ module _ (m : Monitor) (u : Updated) (o : Outcome) (t : Float) (e : told u ≡ o
       }) (sym r)
       ∙ ap (λ (p : Outcome). heard m p t) e
 
+  -- an update that does not ring
   pub silent :
       rings (u .answer) ≡ false →
       record { window = window-view.view (u .window); radius = m .radius; alarms = m .alarms; lastAlarm = m .lastAlarm } ≡ heard m o t
@@ -40,5 +41,6 @@ module _ (m : Monitor) (u : Updated) (o : Outcome) (t : Float) (e : told u ≡ o
       }) (sym r)
       ∙ ap (λ (p : Outcome). heard m p t) e
 
+-- a distance is not nothing
 pub never : (d : Float) → Distance d ≡ Nothing → ⊥
 never d e = let z : _≡_ {A = ℕ} 0 1 = cc in omega arith

@@ -69,6 +69,7 @@ minus-lt : (m : ℕ) (e : ℤ) (w : Float) → lt (fin true m e) (neg w) ≡ lt 
 unfolding neg
 minus-lt m e w = lt-neg (fin false m e) w
 
+-- below 0 and above −2^53
 pub below : (x : Float) → lt x nought ≡ true → lt (neg big) x ≡ true → Below x
 unfolding lt neg toUnsigned ofBits
 below nan p q = absurd (true≢false (sym p))
@@ -103,6 +104,7 @@ zero-lt : (m : ℕ) (e : ℤ) → lt (whole 0) (fin true m e) ≡ false
 unfolding lt ofInt
 zero-lt m e = refl
 
+-- not below 0, and below 2^53
 pub above : (x : Float) → lt x nought ≡ false → lt x big ≡ true → Above x
 unfolding lt toUnsigned ofBits
 above nan p q = absurd (true≢false (sym q))
@@ -157,6 +159,7 @@ big-whole s m (negsuc k) f h = absurd (
 stays-whole : (s : Bool) (m : ℕ) (e : ℤ) → m * up e % down e ≡ 0 → ceilOf (fin s m e) ≡ fin s m e
 stays-whole s m e z = ceil-fin s m e true (is-true (eqb (m * up e % down e) 0) (eq→eqb z))
 
+-- from 2^53 on every double is whole
 pub far-up : (x : Float) → T (fits binary64 x) → lt x big ≡ false → ceilOf x ≡ x
 unfolding lt ceilOf
 far-up nan f p = refl
@@ -164,6 +167,7 @@ far-up (inf s) f p = refl
 far-up (fin true m e) f p = absurd (let h : m * up e * 1 + 2 ^ 53 * down e ≤ 0 = nltb→le 0 (m * up e * 1 + 2 ^ 53 * down e) (no p) in omega (arith, down-pos e))
 far-up (fin false m e) f p = stays-whole false m e (big-whole false m e f (nltb→le (m * up e * 1) (2 ^ 53 * down e) (no p)))
 
+-- from −2^53 down every double is whole
 pub far-down : (x : Float) → T (fits binary64 x) → lt (neg big) x ≡ false → ceilOf x ≡ x
 unfolding lt ceilOf neg
 far-down nan f p = refl

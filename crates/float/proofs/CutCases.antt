@@ -168,6 +168,7 @@ module _ (m : ℕ) (e : ℤ) (f : T (fits binary64 (fin true m e))) where
       let i : 1023 ≤ B m e / 0x10_0000_0000_0000 = omega arith in
       cut-minus m e ∙ ap neg (whole-far m e (fits-plus m e f) (far m e h (one-at-least i))) ∙ sym (minus m e)
 
+-- so it goes for every double below 0
 pub cases : (y : Float) → T (fits binary64 y) → T (lt y nought) → Cases y
 unfolding lt neg isNan toBits cutOf ofBits
 cases nan f t = absurd t

@@ -47,6 +47,7 @@ pattern n h =
     let lo : 2 ^ 52 ≤ n / 2 ^ k = le-div-iff-mul-le (pow-pos k) .1 (le-trans (le-of-eq (sym (pow-add 2 52 k))) (size-reaches n (52 + k) (omega arith))) in
     omega arith
 
+-- a double's bits, by its size in units of 2^−1074
 pub bits-opened :
     (m : ℕ) (e : ℤ) →
     toBits binary64 (fin false m e) ≡ 0 + (size
@@ -64,6 +65,7 @@ one-le : (m : ℕ) (e : ℤ) → T (le one (fin false m e)) → down e ≤ m * u
 unfolding le ofBits
 one-le m e t = let h : 1 * down e ≤ m * up e * 1 = le-or (1 * down e) (m * up e * 1) t in omega arith
 
+-- no double reaches 2^1024
 pub under : (m : ℕ) (e : ℤ) → T (fits binary64 (fin false m e)) → m * up e < 2 ^ 1024 * down e
 unfolding fits
 under zero e t = lt-of-le-of-lt (le-of-eq (zero-mul (up e))) (mul-pos (pow-pos 1024) (down-pos e))
@@ -75,6 +77,7 @@ minus-below : (m : ℕ) (e : ℤ) → T (le one (fin true m e)) → ⊥
 unfolding le ofBits
 minus-below m e t = let z : 1 * down e ≡ 0 = eqb→eq (1 * down e) 0 (and-r (eqb (1 * down e) (m * up e * 1)) (eqb (1 * down e) 0) t) in omega (arith, down-pos e)
 
+-- so it is of every finite double from 1 on
 pub scaled : (v : Float) → T (fits binary64 v) → T (le one v) → T (isFinite v) → Scaled v
 unfolding exponentOf isNan
 scaled nan f l i = absurd i

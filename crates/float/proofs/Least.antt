@@ -38,6 +38,7 @@ minus-small (fin false m e) c p h =
       small = omega arith;
     }
 
+-- a cut double that is not below −1022 is small
 pub small-cut : (y : Float) → lt y nought ≡ true → lt (cutOf y) least ≡ false → Small (cutOf y)
 unfolding cutOf
 small-cut nan p q = absurd (nan-not-below p)

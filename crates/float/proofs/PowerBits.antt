@@ -39,9 +39,11 @@ down-exponent x (suc c) e =
     let k : 1074 - suc (x + 52) ≡ c = omega arith in
     simp (l, k)
 
+-- the bits of 2^−c
 pub power-bits : (c : ℕ) → c ≤ 1022 → ofBits binary64 ((1023 - c) * 0x10_0000_0000_0000) ≡ fin false 1 (negℤ (pos c))
 power-bits c h = bits (1022 - c) ((1023 - c) * 0x10_0000_0000_0000) (omega arith) (omega arith) ∙ ap (fin false 1) (down-exponent (1022 - c) c (omega arith))
 
+-- they are no NaN
 pub power-no-nan : (c : ℕ) → c ≤ 1022 → T (not (nanBits binary64 ((1023 - c) * 0x10_0000_0000_0000)))
 power-no-nan c h = no-nan ((1023 - c) * 0x10_0000_0000_0000) (negℤ (pos c)) (power-bits c h)
 
@@ -52,8 +54,10 @@ up-exponent e =
     let k : 1022 + e + 52 - 1074 ≡ e = omega arith in
     simp (l, k)
 
+-- the bits of 2^e
 pub power-up-bits : (e : ℕ) → e ≤ 1023 → ofBits binary64 ((1023 + e) * 0x10_0000_0000_0000) ≡ fin false 1 (pos e)
 power-up-bits e h = bits (1022 + e) ((1023 + e) * 0x10_0000_0000_0000) (omega arith) (omega arith) ∙ ap (fin false 1) (up-exponent e)
 
+-- they are no NaN
 pub power-up-no-nan : (e : ℕ) → e ≤ 1023 → T (not (nanBits binary64 ((1023 + e) * 0x10_0000_0000_0000)))
 power-up-no-nan e h = no-nan ((1023 + e) * 0x10_0000_0000_0000) (pos e) (power-up-bits e h)

@@ -8,6 +8,7 @@ use Rattle.float.specs.Ln.{series}
 use Rattle.float.specs.TwoTo.{step, steps}
 use Rattle.float.specs.Rounded.{one}
 
+-- one step of the series
 pub steps-next : (z h : Float) (n : ℕ) → 0 < n → steps z (n - 1) (step z n h) ≡ steps z n h
 unfolding steps
 steps-next z h zero p = absurd (omega arith)

@@ -4,12 +4,14 @@ use mathlib.Core.Bool.{true, false, true≢false}
 use lib.Ieee.{Float, nan, inf, fin, lt}
 use Rattle.float.specs.Order.{isFinite}
 
+-- what is not below infinity is not finite
 pub finite-low : (x : Float) → lt x (inf false) ≡ false → isFinite x ≡ false
 unfolding lt
 finite-low nan h = refl
 finite-low (inf s) h = refl
 finite-low (fin s m e) h = absurd (true≢false h)
 
+-- what is below it is finite where it is above minus infinity
 pub finite-high : (x : Float) → lt x (inf false) ≡ true → lt (inf true) x ≡ isFinite x
 unfolding lt
 finite-high nan h = refl

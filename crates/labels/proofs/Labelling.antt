@@ -23,17 +23,21 @@ module _ (v count i : ℕ) (met : List ℕ) (h : i < count) (fits : count ≤ le
   unfolding placeIn
   place-turn = ap (placeIn v) (rest-step count i met 0 h fits)
 
+  -- it stands at i
   pub place-here : getD met i 0 ≡ v → placeIn v (rest count i met) ≡ 0
   place-here e = place-turn ∙ ap (λ (t : Bool). cond t 0 (suc (placeIn v (rest count (i + 1) met)))) (eq-eqb (getD met i 0) v e)
 
+  -- another one stands at i
   pub place-next : getD met i 0 ≢ v → placeIn v (rest count i met) ≡ suc (placeIn v (rest count (i + 1) met))
   place-next e =
       place-turn ∙ ap (λ (t : Bool). cond t 0 (suc (placeIn v (rest count (i + 1) met)))) (ne-eqb (getD met i 0) v e)
 
+-- none is left
 pub place-none : (v count i : ℕ) (met : List ℕ) → count ≤ i → placeIn v (rest count i met) ≡ 0
 unfolding placeIn
 place-none v count i met h = ap (placeIn v) (rest-end count i met h)
 
+-- a place is at most the count
 pub place-most : (v count : ℕ) (met : List ℕ) → placeIn v (take count met) ≤ count
 place-most v count met = omega (arith, place-le v (take count met), length-take count met)
 
@@ -47,6 +51,7 @@ pub record Labelling (mask : List Bool) (roots : List ℕ) (end : ℕ) (labels :
   pub made : take i labels ++ labelsFrom (take count met) (rest end i mask) (drop i roots) ≡ labelsOf (take end mask) roots
   pub unset : drop i labels ≡ replicate (places - i) (negsuc 0)
 
+-- no label is written, and no root is met
 pub labels-start : (mask : List Bool) (roots : List ℕ) (end : ℕ) → Labelling mask roots end (replicate places (negsuc 0)) (replicate places 0) 0 0
 unfolding labelsOf rest
 labels-start mask roots end =
@@ -111,11 +116,13 @@ module _ (mask : List Bool) (roots : List ℕ) (end : ℕ) (labels : List ℤ) (
       same : set labels i (negsuc 0) ≡ labels
       same = ap (λ (ls : List ℤ). set labels i (getD ls 0 (negsuc 0))) (sym unwritten) ∙ set-getD labels i (negsuc 0)
 
+  -- a root met before
   pub label-old : getD mask i false ≡ true → (k : ℕ) → k ≡ placeIn v us → k ≢ count → Labelling mask roots end (set labels i (pos k)) met count (i + 1)
   label-old e k ek n =
       subst (λ (q : ℕ). Labelling mask roots end (set labels i (pos q)) met count (i + 1)) (sym ek)
       (labels-next true e met count (l .room) (omega (arith, l .few)) (sym (meet-old us v (omega (arith, place-le v us, length-us)))))
 
+  -- a root met for the first time
   pub label-new :
       getD mask i false ≡ true → (k : ℕ) → k ≡ placeIn v us → k ≡ count →
       Labelling mask roots end (set labels i (pos k)) (set met k v) (count + 1) (i + 1)
@@ -129,6 +136,7 @@ module _ (mask : List Bool) (roots : List ℕ) (end : ℕ) (labels : List ℤ) (
           ap (λ (q : ℕ). take q (set met count v)) (add-one count) ∙ take-suc-set met count v (omega (arith, l .few, l .room))
           ∙ sym (meet-new us v (omega (arith, length-us)))
 
+-- all labels are written
 pub labels-end :
     (mask : List Bool) (roots : List ℕ) (n end : ℕ) (labels : List ℤ) (met : List ℕ) (count : ℕ) → end ≡ min n places → length mask ≡ places →
     Labelling mask roots end labels met count end →

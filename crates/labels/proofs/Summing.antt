@@ -27,6 +27,7 @@ pub record Summing (roots : List ℕ) (weights : List Float) (end : ℕ) (sums :
       (v : ℕ) → v < places →
       sumFrom (getD sums v nan) v (drop i roots) (rest end i weights) ≡ sumFrom (ofBits binary64 0) v roots (take end weights)
 
+-- no weight is added
 pub sums-start : (roots : List ℕ) (weights : List Float) (end : ℕ) → Summing roots weights end (replicate places (ofBits binary64 0)) 0
 unfolding rest
 sums-start roots weights end =
@@ -75,11 +76,13 @@ module _ (roots : List ℕ) (weights : List Float) (end : ℕ) (sums : List Floa
       x : Float
       x = add binary64 (getD sums r nan) w
 
+  -- a root that is no place: nothing is added
   pub sums-pass : places ≤ r → Summing roots weights end sums (i + 1)
   sums-pass hr =
       sums-next sums (t .size) (λ v hv. sym (ap (λ (b : Bool). cond b (add binary64 (getD sums v nan) w) (getD sums v nan))
       (ne-eqb r v (λ (e : r ≡ v). omega arith))))
 
+-- all weights are added
 pub sums-end :
     (roots : List ℕ) (weights : List Float) (n end : ℕ) (sums : List Float) → end ≡ min n places → length weights ≡ places →
     Summing roots weights end sums end →

@@ -38,6 +38,7 @@ under-ones t x h =
     cond-no (eqb (suc x) 2047) (cond (eqb t 0) (inf false) nan) (odd 53 false (2 ^ 52 + t) x 1074)
     (not-T (eqb (suc x) 2047) (λ (u : T (eqb (suc x) 2047)). differ x h (eqb→eq (suc x) 2047 u)))
 
+-- the value of bits whose exponent field is 0
 pub low-value : (x : Float) → T (fits binary64 x) → toBits binary64 x < 2 ^ 52 → HasValue x false (toBits binary64 x * 2 ^ 0) (2 ^ 1074)
 low-value x f h =
     let b = toBits binary64 x in
@@ -48,6 +49,7 @@ low-value x f h =
     ∙ at-zero b) ∙ ofBits-toBits binary64 x f in
     subst (λ (v : Float). HasValue v false (b * 2 ^ 0) (2 ^ 1074)) is (odd-sign 53 false b 0 1074)
 
+-- the value of other finite bits
 pub high-value : (x : Float) → T (fits binary64 x) → 2 ^ 52 ≤ toBits binary64 x → toBits binary64 x < 2047 * 2 ^ 52
     → HasValue x false ((2 ^ 52 + toBits binary64 x % 2 ^ 52) * 2 ^ (toBits binary64 x / 2 ^ 52 - 1)) (2 ^ 1074)
 high-value x f l h =
@@ -61,12 +63,14 @@ high-value x f l h =
 
 -- ---- what the tests say
 
+-- what is above 0 is no NaN
 pub not-nan : (x : Float) → lt (ofBits binary64 0) x ≡ true → T (not (isNan x))
 unfolding lt isNan ofBits
 not-nan nan h = absurd (false≢true h)
 not-nan (inf s) h = tt
 not-nan (fin s m e) h = tt
 
+-- what is above 0 has some bit
 pub bits-pos : (x : Float) → T (fits binary64 x) → lt (ofBits binary64 0) x ≡ true → 0 < toBits binary64 x
 bits-pos x f h = elim (eq-zero-or-pos (toBits binary64 x)) [
   | inl z ↦ absurd (false≢true (sym same ∙ subst (λ (v : Float). lt (ofBits binary64 0) v ≡ true)
@@ -103,6 +107,7 @@ finite-bits (suc m) e f =
 
 -- ---- the cases that need no root
 
+-- infinity is its own root
 pub above-all : (x : Float) → T (fits binary64 x) → lt (ofBits binary64 0) x ≡ true → 2047 * 2 ^ 52 ≤ toBits binary64 x → x ≡ sqrtOf x
 unfolding lt sqrtOf ofBits
 above-all nan f h l = absurd (false≢true h)
@@ -124,6 +129,7 @@ none e = simp zero-mul
 some : (m : ℕ) (e : ℤ) → 0 < suc m * up e * 1
 some m e = subst (λ (x : ℕ). 0 < x) (sym (mul-one (suc m * up e))) (mul-pos (zero-lt-suc m) (up-pos e))
 
+-- below zero gives NaN
 pub below-zero : (x : Float) → lt x (ofBits binary64 0) ≡ true → div binary64 (ofBits binary64 0) (ofBits binary64 0) ≡ sqrtOf x
 unfolding lt sqrtOf ofBits div
 below-zero nan h = absurd (false≢true h)
@@ -135,6 +141,7 @@ below-zero (fin true (suc m) e) h = refl
 below-zero (fin false (suc m) e) h =
     absurd (not-suc-le-zero (subst (λ (x : ℕ). suc m * up e * 1 < x) (zero-mul (down e)) (yes (suc m * up e * 1) (0 * down e) h)))
 
+-- zeros and NaN are their own roots
 pub neither : (x : Float) → lt x (ofBits binary64 0) ≡ false → lt (ofBits binary64 0) x ≡ false → x ≡ sqrtOf x
 unfolding lt sqrtOf ofBits
 neither nan g h = refl

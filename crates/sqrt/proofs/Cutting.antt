@@ -14,6 +14,7 @@ pub record Cut (g : Float) : Type 0 where
   pub under : T (lt g (fin false 1 (pos 64)))
   pub few : toUnsigned 64 g < 2 ^ 27
 
+-- what `truncating_f64_to_u64` takes, and how large it gets
 pub cut : (g : Float) → T (lt (fin true 1 (pos 0)) g) → T (lt g (fin false 1 (pos 27))) → Cut g
 unfolding lt toUnsigned
 cut nan o u = absurd o

@@ -18,9 +18,11 @@ module _ {s r : ℕ} (h : Half s r) where
   abbrev q : ℕ
   q = s * 2 ^ 27 + d
 
+  -- the lower digits are at most 2^27
   pub d-few : d ≤ 2 ^ 27
   d-few = div-le-of-le-mul (s * 2) (omega arith)
 
+  -- what is left is below twice the root so far
   pub v-less : v < s * 2
   v-less = mod-lt (r * 2 ^ 27) (omega arith)
 
@@ -38,9 +40,11 @@ module _ {s r : ℕ} (h : Half s r) where
   whole : (s * s + r) * 2 ^ 54 + d * d ≡ q * q + v * 2 ^ 27
   whole = omega (arith, split, square)
 
+  -- q is the root
   pub kept : d * d ≤ v * 2 ^ 27 → IsRoot ((s * s + r) * 2 ^ 54) q
   kept t = (omega (arith, whole), omega (arith, whole, next-square q, v-less))
 
+  -- q is one too large
   pub corrected : v * 2 ^ 27 < d * d → IsRoot ((s * s + r) * 2 ^ 54) (q - 1)
   corrected t =
       let p = q - 1 in

@@ -18,9 +18,11 @@ pub record Part (m w q rem i : ℕ) : Type 0 where
   pub word : w < 2 ^ 64
   pub rounds : i ≤ 80
 
+-- equal numbers for the root and what is left
 pub moved : {m w q q′ rem rem′ i : ℕ} → q′ ≡ q → rem′ ≡ rem → Part m w q rem i → Part m w q′ rem′ i
 moved {m} {w} {q} {q′} {rem} {rem′} {i} a b p = subst (λ (x : ℕ). Part m w x rem′ i) (sym a) (subst (λ (x : ℕ). Part m w q x i) (sym b) p)
 
+-- before the first digit
 pub start : (m : ℕ) → m < 2 ^ 54 → Part m (m * 1024) 0 0 0
 start m h = record { whole = omega arith; left = omega arith; few = omega arith; fit = omega arith; word = omega arith; rounds = omega arith }
 
@@ -56,6 +58,7 @@ room {m} {w} {q} {rem} {i} mp p h = lt-of-not-le (λ g. no g)
         le-mul : (m : ℕ) → 0 < m → 1024 ≤ m * 1024
         le-mul m h = omega arith
 
+-- the next digit is 1
 pub up : {m w q rem i : ℕ} → Part m w q rem i → q < 2 ^ 53 → i < 80 → q * 4 + 1 ≤ rem * 4 + w / 2 ^ 62
     → Part m (w % 2 ^ 62 * 4) (q * 2 + 1) (rem * 4 + w / 2 ^ 62 - (q * 4 + 1)) (i + 1)
 up {m} {w} {q} {rem} {i} p h g t = record {
@@ -67,6 +70,7 @@ up {m} {w} {q} {rem} {i} p h g t = record {
   rounds = omega arith;
 }
 
+-- the next digit is 0
 pub down : {m w q rem i : ℕ} → Part m w q rem i → q < 2 ^ 53 → i < 80 → rem * 4 + w / 2 ^ 62 < q * 4 + 1
     → Part m (w % 2 ^ 62 * 4) (q * 2) (rem * 4 + w / 2 ^ 62) (i + 1)
 down {m} {w} {q} {rem} {i} p h g t = record {

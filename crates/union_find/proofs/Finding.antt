@@ -21,6 +21,7 @@ pub record Turn (p₀ : List ℕ) (x : ℕ) (p : List ℕ) (at : ℕ) : Type 0 w
   pub low : at < places
   pub made : Made p rank at steps
 
+-- before the first step
 pub turn-start : (p : List ℕ) → Ranked p → (x : ℕ) → x < places → Turn p x p x
 unfolding findOf
 turn-start p wf x hx = record { rank = wf .0; left = places; steps = 0; fuel = refl; find = refl; well = wf .1; low = hx; made = inl (omega arith) }
@@ -29,6 +30,7 @@ module _ {p₀ : List ℕ} {x : ℕ} {p : List ℕ} {at : ℕ} (t : Turn p₀ x 
   pub turn-up : up p at < places
   turn-up = t .well .low at (t .low)
 
+  -- a halving step more
   pub turn-next : up p at ≢ at → Turn p₀ x (halve p at) (up p (up p at))
   turn-next e = go (t .left) (t .fuel) (t .find)
     where
@@ -46,9 +48,11 @@ module _ {p₀ : List ℕ} {x : ℕ} {p : List ℕ} {at : ℕ} (t : Turn p₀ x 
             made = made-next p (t .rank) (t .well) at (t .steps) (t .low) (t .made) e;
           }
 
+  -- at a root the find is done
   pub turn-end : up p at ≡ at → findOf p₀ x ≡ record { parent = p; root = at; steps = t .steps }
   turn-end e = sym (t .find) ∙ find-stop (t .left) p at (t .steps) e
 
+  -- each step leaves one less
   pub turn-less : up p at ≢ at → findOf (halve p at) (up p (up p at)) .steps < findOf p at .steps
   turn-less e = steps-less p (t .rank) (t .well) at (t .low) e
 
@@ -57,6 +61,7 @@ module _ (p r : List ℕ) (wf : WellFormed p r) (x : ℕ) (hx : x < places) (y :
   pub found-well : WellFormed q r
   found-well = rw eq (find-law p r wf x hx .well)
 
+  -- the root found is a place
   pub found-low : y < places
   found-low = rw ey (find-law p r wf x hx .low)
 

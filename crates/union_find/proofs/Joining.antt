@@ -17,6 +17,7 @@ use Rattle.union_find.specs.Laws.Find.{Finds, find-law}
 use Rattle.union_find.specs.Laws.Union.{union-law, table-length, table-at}
 use Rattle.union_find.specs.Laws.Root.{join-in, join-out, forest-tells}
 
+-- a join keeps the forest sound
 pub join-sound : (n : ℕ) (u : UnionFind) (e : ℕ × ℕ) → n ≤ places → Sound u → Sound (joinOf n u e)
 join-sound n u e hn s =
     by-cases (decLt (e .0) n)
@@ -48,6 +49,7 @@ module _ (n : ℕ) (xs ys : List ℕ) (k : ℕ) (u : UnionFind) where
       ap (λ (m : ℕ). joinAll n (joinOf n u (getD xs k 0, getD ys k 0)) (drop m (pairsOf xs ys))) (add-one k)
       ∙ ap (joinAll n u) (sym (pairs-drop xs ys k h g))
 
+  -- no pair is left
   pub join-end : min (length xs) (length ys) ≤ k → joinAll n u (drop k (pairsOf xs ys)) ≡ u
   join-end h = ap (joinAll n u) (pairs-end xs ys k h)
 
@@ -59,6 +61,7 @@ pub record Seeking (p₀ p roots : List ℕ) (i : ℕ) : Type 0 where
   pub within : i ≤ places
   pub noted : (k : ℕ) → k < i → getD roots k 0 ≡ rootOf p₀ k
 
+-- before the first root is noted
 pub seek-start : (n : ℕ) → n ≤ places → (es : List (ℕ × ℕ)) (u : UnionFind) → u ≡ joinAll n newOf es → Seeking (u .parent) (u .parent) (replicate places 0) 0
 seek-start n hn es u e =
     record {
@@ -69,6 +72,7 @@ seek-start n hn es u e =
       noted = λ k hk. absurd (omega arith);
     }
 
+-- one root more is noted
 pub seek-next :
     (p₀ p roots : List ℕ) (i : ℕ) → Seeking p₀ p roots i → i < places → (x : ℕ) (q : List ℕ) → x ≡ findOf p i .root → q ≡ findOf p i .parent →
     Seeking p₀ q (set roots i x) (i + 1)
@@ -89,6 +93,7 @@ seek-next p₀ p roots i s hi x q ex eq =
     f : Finds p (s .ranked .0) i (findOf p i)
     f = find-law p (s .ranked .0) (s .ranked .1) i hi
 
+-- all roots are noted
 pub seek-end :
     (n m : ℕ) → m ≡ min n places → (es : List (ℕ × ℕ)) (u : UnionFind) → u ≡ joinAll m newOf es → (p roots : List ℕ) → Seeking (u .parent) p roots places →
     roots ≡ rootsOf n es

@@ -1,5 +1,6 @@
 -- `update` meets its contract: a walk of its code, by hand.
--- The borrow is opened, the window is copied out and passed to the update by value; of what that returns one field is stored back, the borrow is closed, and the other field is the result.
+-- The borrow is opened, the window is copied out and passed to the update by value;
+-- of what that returns one field is stored back, the borrow is closed, and the other field is the result.
 -- Assumes nothing.
 use mathlib.Core.Path.{_≡_, refl}
 use mathlib.Core.Bool.{true}

@@ -2,7 +2,7 @@
 use mathlib.Core.Path.{_≡_, refl, sym, ap}
 use Prim.Native.Nat.{ℕ, _*_, _≤_, _<_}
 use native.Mathlib.Nat.{add-comm, lt-of-not-le, not-le-of-lt}
-use mathlib.Core.Bool.{Bool, true, false, true≢false}
+use mathlib.Core.Bool.{Bool, true, false, _||_, true≢false}
 use lib.Dec.{T, ltb, ltb→lt, lt→ltb, eqb, eqb-refl}
 use lib.Ieee.{Float, nan, inf, fin, up, down, lt, ne, neg, isNan}
 use lib.Ieee.Bits.{is-true}
@@ -29,6 +29,15 @@ lt-neg (fin true m e) (fin true n d) = refl
 lt-neg (fin true m e) (fin false n d) = refl
 lt-neg (fin false m e) (fin true n d) = ap (ltb 0) (add-comm (m * up e * down d) (n * up d * down e))
 lt-neg (fin false m e) (fin false n d) = refl
+
+-- where one of two tests holds, their or does
+pub or-l : (a b : Bool) → T a → T (a || b)
+or-l true b t = tt
+or-l false b t = absurd t
+
+pub or-r : (a b : Bool) → T b → T (a || b)
+or-r true b t = tt
+or-r false b t = t
 
 -- tests that hold together are one
 pub same : (a b : Bool) → (T a → T b) → (T b → T a) → a ≡ b

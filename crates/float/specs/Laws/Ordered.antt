@@ -14,6 +14,7 @@ use lib.Ieee.Fits.{down-pos, up-pos, eq→eqb, and-l, and-r}
 use lib.Ieee.Order.{round-mono}
 use lib.Ieee.Scale.{round-same, finite}
 use Rattle.float.specs.Rounded.{nought}
+use Rattle.float.specs.Laws.Compare.{or-l, or-r}
 use Rattle.float.specs.Laws.Opened.{Plus, plus-round, round-neg, mul-fin, div-fin, add-fin, unlike-false}
 
 -- a size on the plus side: 0 for a negative number
@@ -27,14 +28,6 @@ Q false a = 0
 Q true a = a
 
 -- ---- a Bool or
-or-l : (a b : Bool) → T a → T (a || b)
-or-l true b t = tt
-or-l false b t = absurd t
-
-or-r : (a b : Bool) → T b → T (a || b)
-or-r true b t = tt
-or-r false b t = t
-
 or-e : (a b : Bool) → T (a || b) → T a ⊎ T b
 or-e true b t = inl tt
 or-e false b t = inr t

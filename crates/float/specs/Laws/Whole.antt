@@ -18,7 +18,7 @@ use mathlib.Core.Logic.{inl, inr}
 use lib.Ieee.Scale.{round-same}
 use Rattle.float.specs.Rounded.{_⊕_, _⊖_, nought, one, whole, Is}
 use Rattle.float.specs.Laws.Opened.{add-fin, sum-same, sum-away, mul-fin}
-use Rattle.float.specs.Laws.Compare.{same}
+use Rattle.float.specs.Laws.Compare.{same, or-l, or-r}
 
 -- a whole number up to 2^53 is exact
 pub whole-is : (n : ℕ) → n ≤ 2 ^ 53 → Is (whole n) n
@@ -145,14 +145,6 @@ lt-or-eq n k = same (ltb n k || eqb n k) (leb n k) (forth (ltb n k) (eqb n k) (l
     forth true b p q t = le→leb n k (le-of-lt (p tt))
     forth false true p q t = le→leb n k (le-of-eq (q tt))
     forth false false p q t = absurd t
-
-    or-r : (a b : Bool) → T b → T (a || b)
-    or-r true b t = tt
-    or-r false b t = t
-
-    or-l : (a b : Bool) → T a → T (a || b)
-    or-l true b t = tt
-    or-l false b t = absurd t
 
     back : n ≤ k → T (ltb n k || eqb n k)
     back h = elim (eq-or-lt-of-le h) [ inl e ↦ or-r (ltb n k) (eqb n k) (eq→eqb e) | inr l ↦ or-l (ltb n k) (eqb n k) (lt→ltb n k l) ]

@@ -27,8 +27,9 @@ room-told c =
 
 pushed :
     (c : tie.After-push-bucket) →
-    Pushed (c .before .before .before .before .before .before .before .args .self)
-    (c .before .before .before .before .before .before .before .args .value) (c .push-bucket .result) (c .before .before .variance-with .result)
+    let at-variance-with = c .before .before in
+    let start = at-variance-with .before .before .before .before .before in
+    Pushed (start .args .self) (start .args .value) (c .push-bucket .result) (at-variance-with .variance-with .result)
 pushed c =
     let at-variance-with = c .before .before in
     let at-if2 = at-variance-with .before in

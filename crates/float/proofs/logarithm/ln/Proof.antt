@@ -48,9 +48,11 @@ returns : tie.Need-returns
 unfolding lnBy ofBits
 returns c =
     let at-power-up = c .before .before in
-    let x = at-power-up .before in
-    rw (c .log-series .ensures, at-power-up .power-up .ensures, x .exponent .ensures .0)
-    (sym (ln-case (x .before .before .before .before .args .v) true true (at-least (x .before)) (is-finite (x .before))))
+    let at-exponent = at-power-up .before in
+    let at-if2 = at-exponent .before in
+    let start = at-if2 .before .before .before in
+    rw (c .log-series .ensures, at-power-up .power-up .ensures, at-exponent .exponent .ensures .0)
+    (sym (ln-case (start .args .v) true true (at-least at-if2) (is-finite at-if2)))
 
 returns-2 : tie.Need-returns-2
 unfolding ofBits

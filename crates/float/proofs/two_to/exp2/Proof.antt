@@ -57,9 +57,13 @@ power-down-requires c κs = rw (number (c .before)) (small (c .before .before) .
 
 returns-2 : tie.Need-returns-2
 returns-2 c =
-    let e = c .before .before .before in
-    rw (c .before .horner .ensures, c .power-down .ensures, number (c .before .before))
-    (sym (by-tests (e .before .before .before .args .y) (e .before .cut .result) true false (e .before .before .if1 .taken) (e .before .cut .ensures) (left e)))
+    let at-number = c .before .before in
+    let at-if2 = at-number .before in
+    let at-cut = at-if2 .before in
+    let at-if1 = at-cut .before in
+    let start = at-if1 .before in
+    rw (c .before .horner .ensures, c .power-down .ensures, number at-number)
+    (sym (by-tests (start .args .y) (at-cut .cut .result) true false (at-if1 .if1 .taken) (at-cut .cut .ensures) (left at-if2)))
 
 returns-3 : tie.Need-returns-3
 returns-3 c = sym (by-tests (c .before .args .y) (cutOf (c .before .args .y)) false (lt (cutOf (c .before .args .y)) least) (c .if1 .left) refl refl)
