@@ -1,4 +1,4 @@
--- The walk through the pairs of the first k of 64 creation numbers. Definitions only.
+-- The walk through the pairs of the first k creation numbers. Definitions only.
 use Prim.Native.Nat.{ℕ, _+_, _-_, min}
 use mathlib.Core.Bool.{cond}
 use mathlib.Core.List.{List, _++_, map}

@@ -23,7 +23,7 @@ fn place_in(met: [usize; PLACES], count: usize, v: usize) -> usize
     count
 }
 
-// A number of at most 64 as a label.
+// A number of at most PLACES as a label.
 fn label(k: usize) -> i64
     requires { ⌜ k ≤ places ⌝ }
     ensures { λ r. ⌜ r ≡ pos k ⌝ }

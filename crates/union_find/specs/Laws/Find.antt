@@ -1,4 +1,4 @@
--- What a find does to well-formed parents: every root stays, and among 64 places at most 3 halving steps are made. Assumes nothing.
+-- What a find does to well-formed parents: every root stays, and among these places at most 3 halving steps are made. Assumes nothing.
 use Prim.Native.Nat.{ℕ, zero, suc, _+_, _-_, _<_, _≤_}
 use mathlib.Core.Path.{_≡_, refl, sym, _∙_, ap, subst}
 use mathlib.Core.Logic.{_≢_, _⊎_, inl, inr, ⊎-elim, by-cases}

@@ -99,7 +99,7 @@ module _ (n : ℕ) (hn : n ≤ places) where
       }) in
       record { sound = m .sound; kernel = kernel-same (λ i j. ⊎-elim (λ r. absurd r) (λ s. s)) (λ i j s. inr s) (m .kernel) }
 
--- the roots of the 64 places after the pairs of the first n were joined
+-- the roots of all places after the pairs of the first n were joined
 pub record RootsTell (n : ℕ) (es : List (ℕ × ℕ)) (roots : List ℕ) : Type 0 where
   pub count : length roots ≡ places
   -- a root is a place
