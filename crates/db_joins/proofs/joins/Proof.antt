@@ -19,8 +19,7 @@ returns c =
     let at-if1 = at-is-strong2 .before in
     let at-is-strong = at-if1 .before in
     sym (rw (
-      sym (at-is-strong .«is-strong» .ensures)
-          ∙ at-if1 .if1 .taken,
+      sym (at-is-strong .«is-strong» .ensures) ∙ at-if1 .if1 .taken,
       sym (at-is-strong2 .«is-strong2» .ensures) ∙ c .before .if2 .taken,
       ← c .faded .ensures,
     ))

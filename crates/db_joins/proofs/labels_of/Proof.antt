@@ -30,8 +30,7 @@ array-share-prefix-a c =
 slice-aggregate-roots : tie.Need-slice-aggregate-roots
 slice-aggregate-roots c =
     let at-joined = c .before .before .before in
-    sym (length-take-le _ (at-joined .joined .result .a)
-    (omega (arith, room-a at-joined, at-joined .joined .ensures .1)))
+    sym (length-take-le _ (at-joined .joined .result .a) (omega (arith, room-a at-joined, at-joined .joined .ensures .1)))
 
 array-share-prefix-b : tie.Need-array-share-prefix-b
 array-share-prefix-b c =
@@ -41,8 +40,7 @@ array-share-prefix-b c =
 slice-aggregate-roots-2 : tie.Need-slice-aggregate-roots-2
 slice-aggregate-roots-2 c =
     let at-joined = c .before .before .before .before in
-    sym (length-take-le _ (at-joined .joined .result .b)
-    (omega (arith, room-b at-joined, at-joined .joined .ensures .1)))
+    sym (length-take-le _ (at-joined .joined .result .b) (omega (arith, room-b at-joined, at-joined .joined .ensures .1)))
 
 roots-requires : tie.Need-roots-requires
 roots-requires c κs = search needs

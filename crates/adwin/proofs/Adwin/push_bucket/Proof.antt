@@ -139,8 +139,7 @@ loop-again-2 c =
     let at-if2 = at-merged .before .before .before in
     let at-if1 = at-if2 .before in
     let p = at-if1 .before .before .before .before in
-    walk-merges _ _ _ _ _ (p .loop .inv) (p .loop .i - 1) (omega arith) (at-if1 .if1 .left)
-    (at-if2 .if2 .taken) _ _ (at-merged .merged .ensures)
+    walk-merges _ _ _ _ _ (p .loop .inv) (p .loop .i - 1) (omega arith) (at-if1 .if1 .left) (at-if2 .if2 .taken) _ _ (at-merged .merged .ensures)
     (at-next-class .next-class .ensures) _ _ _ (c .before .loop2 .inv) (c .loop2-test .left)
 
 add-k : tie.Need-add-k Inv-loop2 μ-loop2 Inv-loop μ-loop

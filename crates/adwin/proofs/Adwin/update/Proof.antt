@@ -83,8 +83,7 @@ add-w c =
     omega (
       arith,
       ap (λ (u : Window). u .taken) (p .held),
-      room-taken
-          (view (start .args .self)) (p .room),
+      room-taken (view (start .args .self)) (p .room),
     )
 
 sub-if3 : tie.Need-sub-if3

@@ -31,8 +31,7 @@ unfolding inFloat
 int-to-float-result c =
     let at-if1 = c .before .before in
     let start = at-if1 .before in
-    le→leb (shiftOf (start .args .y)) 0x20_0000_0000_0000
-    (known start .within (at-if1 .if1 .left) (c .before .if2 .taken) .0)
+    le→leb (shiftOf (start .args .y)) 0x20_0000_0000_0000 (known start .within (at-if1 .if1 .left) (c .before .if2 .taken) .0)
 
 returns-2 : tie.Need-returns-2
 returns-2 c =

@@ -30,8 +30,7 @@ returns : tie.Need-returns
 returns c =
     let at-if1 = c .before .before in
     let start = at-if1 .before in
-    sym (by-tests (start .args .y) (c .before .cut .result) true true (at-if1 .if1 .taken) (c .before .cut .ensures)
-    (rw limit at (c .if2 .taken)))
+    sym (by-tests (start .args .y) (c .before .cut .result) true true (at-if1 .if1 .taken) (c .before .cut .ensures) (rw limit at (c .if2 .taken)))
 
 left : (c : tie.Else2) → lt (c .before .cut .result) least ≡ false
 left c = rw limit at (c .if2 .left)
@@ -40,8 +39,7 @@ small : (c : tie.Else2) → Small (c .before .cut .result)
 small c =
     let at-if1 = c .before .before in
     let start = at-if1 .before in
-    subst Small (sym (c .before .cut .ensures))
-    (small-cut (start .args .y) (at-if1 .if1 .taken) (rw (c .before .cut .ensures) at (left c)))
+    subst Small (sym (c .before .cut .ensures)) (small-cut (start .args .y) (at-if1 .if1 .taken) (rw (c .before .cut .ensures) at (left c)))
 
 truncating-f64-to-u64-requires : tie.Need-truncating-f64-to-u64-requires
 truncating-f64-to-u64-requires c κs = (small c .over, small c .under)

@@ -52,8 +52,7 @@ label-requires c κs =
     omega (
       arith,
       c .before .place-in .ensures,
-      place-most (getD (start .args .t1) (l .i) 0) (l .count)
-          (l .met),
+      place-most (getD (start .args .t1) (l .i) 0) (l .count) (l .met),
       l .inv .few,
     )
 

@@ -39,8 +39,7 @@ returns-2 c =
     let at-nearest = c .before .before in
     let at-if1 = at-nearest .before in
     let start = at-if1 .before .before .before in
-    label-found (start .args .radius2) (counted (at-if1 .before))
-    (at-if1 .if1 .left) (at-nearest .nearest .ensures) Nothing (c .enum-told .given .1)
+    label-found (start .args .radius2) (counted (at-if1 .before)) (at-if1 .if1 .left) (at-nearest .nearest .ensures) Nothing (c .enum-told .given .1)
 
 mul-result : tie.Need-mul-result
 mul-result c =
@@ -50,9 +49,7 @@ mul-result c =
     let start = at-if1 .before .before .before in
     omega (
       arith,
-      place-low (start .args .radius2)
-          (counted (at-if1 .before)) (at-if1 .if1 .left)
-          (at-nearest .nearest .ensures) (at-found .found .given .1),
+      place-low (start .args .radius2) (counted (at-if1 .before)) (at-if1 .if1 .left) (at-nearest .nearest .ensures) (at-found .found .given .1),
     )
 
 array-copy-out-result : tie.Need-array-copy-out-result
@@ -63,9 +60,7 @@ array-copy-out-result c =
     let start = at-if1 .before .before .before in
     omega (
       arith,
-      place-low (start .args .radius2)
-          (counted (at-if1 .before)) (at-if1 .if1 .left)
-          (at-nearest .nearest .ensures) (at-found .found .given .1),
+      place-low (start .args .radius2) (counted (at-if1 .before)) (at-if1 .if1 .left) (at-nearest .nearest .ensures) (at-found .found .given .1),
     )
 
 returns-3 : tie.Need-returns-3
@@ -74,10 +69,8 @@ returns-3 c =
     let at-nearest = at-found .before .before in
     let at-if1 = at-nearest .before in
     let start = at-if1 .before .before .before in
-    label-near (start .args .radius2)
-    (counted (at-if1 .before)) (at-if1 .if1 .left)
-    (at-nearest .nearest .ensures) (at-found .found .given .1) (c .before .if2 .taken) _
-    (toZ-ofZ (sfits-of {w = w64} (c .result .given)))
+    label-near (start .args .radius2) (counted (at-if1 .before)) (at-if1 .if1 .left)
+    (at-nearest .nearest .ensures) (at-found .found .given .1) (c .before .if2 .taken) _ (toZ-ofZ (sfits-of {w = w64} (c .result .given)))
 
 returns-4 : tie.Need-returns-4
 returns-4 c =
@@ -85,8 +78,7 @@ returns-4 c =
     let at-nearest = at-found .before .before in
     let at-if1 = at-nearest .before in
     let start = at-if1 .before .before .before in
-    label-far (start .args .radius2)
-    (counted (at-if1 .before)) (at-if1 .if1 .left)
+    label-far (start .args .radius2) (counted (at-if1 .before)) (at-if1 .if1 .left)
     (at-nearest .nearest .ensures) (at-found .found .given .1) (c .if2 .left)
 
 pub label-for-spec : {M : Type 1} → statement M

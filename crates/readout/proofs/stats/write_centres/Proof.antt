@@ -85,8 +85,7 @@ loop-again c =
     let at-write = c .before .before in
     let at-test = at-write .before .before .before .before .before .before in (
       omega arith,
-      turn-step (turn (at-test .before))
-          (at-test .loop-test .taken) _ _ (at-write .write .ensures),
+      turn-step (turn (at-test .before)) (at-test .loop-test .taken) _ _ (at-write .write .ensures),
     )
 
 same-length : tie.Need-same-length Inv-loop μ-loop

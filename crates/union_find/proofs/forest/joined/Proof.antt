@@ -63,12 +63,10 @@ loop-again c =
     let l = at-loop .loop in
     let h : l .k < length (a .args .a .now) =
     omega (arith, at-cut .cut .ensures, at-test .loop-test .taken) in
-    let g : l .k < length (a .args .b .now) = omega
-    (arith, at-cut .cut .ensures, at-test .loop-test .taken) in (
+    let g : l .k < length (a .args .b .now) = omega (arith, at-cut .cut .ensures, at-test .loop-test .taken) in (
       subst Sound (sym (c .join .ensures)) (join-sound (a .args .n) (l .uf) _ (a .pre) (l .inv .0)),
       ap (λ (u : UnionFind). joinAll (a .args .n) u (drop (l .k + 1) (pairsOf (a .args .a .now) (a .args .b .now)))) (c .join .ensures)
-          ∙ join-step (a .args .n) (a .args .a .now) (a .args .b .now) (l .k) (l .uf) h g
-          ∙ l .inv .1,
+          ∙ join-step (a .args .n) (a .args .a .now) (a .args .b .now) (l .k) (l .uf) h g ∙ l .inv .1,
       omega arith,
     )
 

@@ -20,9 +20,7 @@ returns c =
     let a = at-if1 .before .before .before .before .args in
     sym (rw (
       lt-ltb _ _ (at-if1 .if1 .taken),
-      ←
-          (at-gained .gained .ensures ∙ gain-by (a .lambda) (a .t) (at-fade .fade .result) (a .self .walk .key)
-          (at-fade .fade .ensures .0)),
+      ← (at-gained .gained .ensures ∙ gain-by (a .lambda) (a .t) (at-fade .fade .result) (a .self .walk .key) (at-fade .fade .ensures .0)),
     ))
 
 returns-2 : tie.Need-returns-2

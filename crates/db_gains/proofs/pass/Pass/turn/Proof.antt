@@ -27,8 +27,7 @@ returns-2 c =
     let at-if2 = at-is-before .before in
     let at-if1 = at-if2 .before .before .before .before .before in
     let a = at-if1 .before .args in
-    passed-turn (a .lambda) (a .t) (a .self) (a .l) (at-if1 .if1 .left)
-    (at-if2 .if2 .taken)
+    passed-turn (a .lambda) (a .t) (a .self) (a .l) (at-if1 .if1 .left) (at-if2 .if2 .taken)
     (sym (at-is-before .«is-before» .ensures) ∙ at-if3 .if3 .taken)
 
 same-ends-requires : tie.Need-same-ends-requires
@@ -51,13 +50,8 @@ returns-3 c =
     let at-if2 = at-is-before .before in
     let at-if1 = at-if2 .before .before .before .before .before in
     let a = at-if1 .before .args in
-    gained-turn (a .lambda) (a .t) (a .self) (a .l)
-    (at-if1 .if1 .left)
-    (at-since .since .result) (at-gained .gained .result)
-    (at-if2 .if2 .taken)
-    (sym (at-is-before .«is-before» .ensures)
-    ∙ at-if3 .if3 .left)
-    (sym (at-same-ends .«same-ends» .ensures) ∙ at-if4 .if4 .taken)
+    gained-turn (a .lambda) (a .t) (a .self) (a .l) (at-if1 .if1 .left) (at-since .since .result) (at-gained .gained .result) (at-if2 .if2 .taken)
+    (sym (at-is-before .«is-before» .ensures) ∙ at-if3 .if3 .left) (sym (at-same-ends .«same-ends» .ensures) ∙ at-if4 .if4 .taken)
     (at-since .since .ensures) (at-gained .gained .ensures)
 
 inserted-requires : tie.Need-inserted-requires
