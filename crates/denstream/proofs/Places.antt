@@ -51,25 +51,21 @@ over s a n b k =
 
 module _ {s : DenStream} {p : Placement} {np no : ℕ} (c : Counted s p np no) where
   pub potential-low : p .target ≡ Potential → p .place < 64
-  unfolding view
   potential-low e =
       laws.potential-low (min (s .params .settings .dim) maxDim) (s .potential) (s .«potential_count») (s .outliers) (s .«outlier_count») (p .target) (p .place)
       (p .micro) (c .ready) e (c .potential-size)
 
   pub outlier-low : p .target ≡ Outlier → p .place < 64
-  unfolding view
   outlier-low e =
       laws.outlier-low (min (s .params .settings .dim) maxDim) (s .potential) (s .«potential_count») (s .outliers) (s .«outlier_count») (p .target) (p .place)
       (p .micro) (c .ready) e (c .outliers-size)
 
   pub promotion-low : p .target ≡ Promotion → np < 64
-  unfolding view
   promotion-low e =
       laws.promotion-low (min (s .params .settings .dim) maxDim) (s .potential) (s .«potential_count») (s .outliers) (s .«outlier_count») (c .potential-size)
       (c .outliers-size) np (c .potential-held) no (c .outliers-held) (p .target) (p .place) (p .micro) (c .ready) e
 
   pub newborn-low : p .target ≡ Newborn → np + no < 64
-  unfolding view
   newborn-low e =
       laws.newborn-low (min (s .params .settings .dim) maxDim) (s .potential) (s .«potential_count») (s .outliers) (s .«outlier_count») (c .potential-size)
       (c .outliers-size) np (c .potential-held) no (c .outliers-held) (p .target) (p .place) (p .micro) (c .ready) e
@@ -77,7 +73,6 @@ module _ {s : DenStream} {p : Placement} {np no : ℕ} (c : Counted s p np no) w
   pub to-potential :
       p .target ≡ Potential → view (cleared (over s (set (s .potential) (p .place) (p .micro)) (s .«potential_count») (s .outliers) (s .«outlier_count»)))
       ≡ withPools s (pooledIn s p)
-  unfolding view
   to-potential e =
       ap (withPools s) (laws.potential-absorbs (min (s .params .settings .dim) maxDim) (s .potential) (s .«potential_count») (s .outliers) (s .«outlier_count»)
       (p .target) (p .place) (p .micro) e)
@@ -85,7 +80,6 @@ module _ {s : DenStream} {p : Placement} {np no : ℕ} (c : Counted s p np no) w
   pub to-outlier :
       p .target ≡ Outlier → view (cleared (over s (s .potential) (s .«potential_count») (set (s .outliers) (p .place) (p .micro)) (s .«outlier_count»)))
       ≡ withPools s (pooledIn s p)
-  unfolding view
   to-outlier e =
       ap (withPools s) (laws.outlier-absorbs (min (s .params .settings .dim) maxDim) (s .potential) (s .«potential_count») (s .outliers) (s .«outlier_count»)
       (p .target) (p .place) (p .micro) e)
@@ -93,7 +87,6 @@ module _ {s : DenStream} {p : Placement} {np no : ℕ} (c : Counted s p np no) w
   pub to-promotion :
       p .target ≡ Promotion → (rest : Pool) → held rest ≡ without (p .place) (take no (s .outliers)) → rest .count ≡ length (held rest) →
       view (cleared (over s (set (s .potential) np (p .micro)) (np + 1) (rest .micros) (rest .count))) ≡ withPools s (pooledIn s p)
-  unfolding view
   to-promotion e rest el cl =
       ap (withPools s) (laws.promotes (min (s .params .settings .dim) maxDim) (s .potential) (s .«potential_count») (s .outliers) (s .«outlier_count»)
       (c .potential-size) (c .outliers-size) np (c .potential-held) no (c .outliers-held) (p .target) (p .place) (p .micro) (c .ready) e rest el cl)
@@ -101,7 +94,6 @@ module _ {s : DenStream} {p : Placement} {np no : ℕ} (c : Counted s p np no) w
   pub to-newborn :
       p .target ≡ Newborn → view (cleared (over s (s .potential) (s .«potential_count») (set (s .outliers) no (p .micro)) (no + 1)))
       ≡ withPools s (pooledIn s p)
-  unfolding view
   to-newborn e =
       ap (withPools s) (laws.comes (min (s .params .settings .dim) maxDim) (s .potential) (s .«potential_count») (s .outliers) (s .«outlier_count») (c .potential-size)
       (c .outliers-size) np (c .potential-held) no (c .outliers-held) (p .target) (p .place) (p .micro) (c .ready) e)

@@ -42,12 +42,10 @@ module _ (s : DenStream) (near : Nearest) (r : Ticked)
   later = at s (s .«label_count») (r .t) (r .drift)
 
   advanced-is : view later ≡ advanced (view s) near
-  unfolding view
   advanced-is =
       ap (λ (q : Tick). stateOf (s .params) (q .t) (s .potential) (s .«potential_count») (s .outliers) (s .«outlier_count») (view s .labels) (q .drift)) told
 
   due-is : (b : Bool) → r .due ≡ b → isMultiple (view s .t ⊕ one) (view s .params .tp) ≡ b
-  unfolding view
   due-is b e = sym (ap (λ (q : Tick). q .due) told) ∙ e
 
   pub tick-still : r .due ≡ false → view later ≡ tickOf (view s) near

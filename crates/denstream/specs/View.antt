@@ -1,22 +1,29 @@
--- The code's stream as the definitions' state: lists cut to their counts. Definitions only.
+-- The stream of the arrays, and document 01's in it: the view. Definitions only.
+use Prim.Native.Nat.{ℕ}
 use lib.ListN.{take}
-use Rattle.drift.specs.Monitor as monitor
-use Rattle.model.specs.DenState.{State}
+use Rattle.drift.specs.Monitor as drift
 use Rattle.model.specs.Outcome as outcome
-use Rattle.model.specs.Outcome.{Outcome}
-use Rattle.den_placement.specs.Pools.{stateOf}
+use Rattle.model.specs.DenState.{Holdings, State}
+use Rattle.den_pool.specs.Held.{settledOf}
+use Rattle.den_placement.specs.Pools.{poolsOf}
 use Rattle.denstream.specs.declared.stream.DenStream.{DenStream}
 use Rattle.denstream.specs.declared.opening.Opened.{Opened}
 use Rattle.denstream.specs.declared.insert.Inserted.{Inserted}
 
-unfoldable pub view : DenStream → State
-view s =
-    stateOf (s .params) (s .t) (s .potential) (s .«potential_count») (s .outliers) (s .«outlier_count»)
-    (take (s .«label_count») (s .labels))
-    (monitor.view (s .drift))
+abbrev pub dimOf : DenStream → ℕ
+dimOf s = settledOf (s .params) .settings .dim
 
+-- all that is kept, and nothing of the places past a count
+abbrev pub heldIn : DenStream → Holdings
+heldIn s = poolsOf (dimOf s) (s .potential) (s .«potential_count») (s .outliers) (s .«outlier_count»)
+
+abbrev pub view : DenStream → State
+view s = record { params = settledOf (s .params); t = s .t; held = heldIn s; labels = take (s .«label_count») (s .labels); drift = drift.view (s .drift) }
+
+-- what an opening tells
 abbrev pub openedTold : Opened → outcome.Opened State
-openedTold r = record { answer = r .answer; stream = view (r .stream) }
+openedTold o = record { answer = o .answer; stream = view (o .stream) }
 
-abbrev pub told : Inserted → Outcome State
-told r = record { answer = r .answer; stream = view (r .stream) }
+-- what an insert tells
+abbrev pub insertedTold : Inserted → outcome.Outcome State
+insertedTold r = record { answer = r .answer; stream = view (r .stream) }

@@ -14,7 +14,7 @@ ghost use Rattle.model.specs.Stream.{taking};
 ghost use Rattle.model.specs.Denstream.{tickOf, hasPlace, insertOf};
 ghost use Rattle.den_pool.specs.Held.{microIn};
 ghost use Rattle.den_placement.specs.Placing.{takes, pooledAt, Ready};
-ghost use Rattle.denstream.specs.View.{view, told};
+ghost use Rattle.denstream.specs.View.{view, insertedTold};
 
 pub struct Inserted {
     pub answer: Insertion,
@@ -70,7 +70,7 @@ impl DenStream {
     }
 
     pub fn try_insert(self, x: &[f64]) -> Inserted
-        ensures { λ r. ⌜ told r ≡ insertOf (view self) (now (x .entry)) ⌝ }
+        ensures { λ r. ⌜ insertedTold r ≡ insertOf (view self) (now (x .entry)) ⌝ }
         ensures kept { λ r. ⌜ (insertionNumber (r .answer) ≢ 0 → r .stream ≡ self) ⌝ }
         ensures said { λ r. ⌜ insertionSaid (r .answer)
             ≡ insertionNo (view self .params .settings .dim) (length (now (x .entry))) (view self .t) (hasPlace (view self) (now (x .entry))) ⌝ }

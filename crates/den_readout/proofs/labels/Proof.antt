@@ -11,7 +11,6 @@ same-length : tie.Need-same-length
 same-length c = search needs
 
 returns : tie.Need-returns
-unfolding view
 returns c = c .before .read-labels .ensures
 
 pub labels-spec : {M : Type 1} → statement M

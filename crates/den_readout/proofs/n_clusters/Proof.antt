@@ -8,7 +8,6 @@ n-clusters-requires : tie.Need-n-clusters-requires
 n-clusters-requires c κs = search needs
 
 returns : tie.Need-returns
-unfolding view
 returns c = c .n-clusters .ensures
 
 pub n-clusters-spec : {M : Type 1} → statement M

@@ -31,7 +31,6 @@ same-length-3 : tie.Need-same-length-3
 same-length-3 c = search needs
 
 returns : tie.Need-returns
-unfolding view
 returns c =
     let e = c .before .before .before .before .before .before in
     let a = e .before .before .before .before .before .before .before .before .before .before .before .args in

@@ -23,7 +23,6 @@ predict-requires : tie.Need-predict-requires
 predict-requires c κs = search needs
 
 returns : tie.Need-returns
-unfolding view
 returns c =
     let a = c .before .before .before .before .before .before .before .args in
     let s = a .stream in

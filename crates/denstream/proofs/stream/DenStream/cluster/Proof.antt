@@ -14,7 +14,6 @@ group-labels-requires : tie.Need-group-labels-requires
 group-labels-requires c κs = search needs
 
 returns : tie.Need-returns
-unfolding view
 returns c =
     let s = c .before .before .before .before .args .self in
     clustered (s .params) (s .t) (s .potential) (s .«potential_count») (s .outliers) (s .«outlier_count») (take (s .«label_count») (s .labels)) (monitor.view (s .drift)) (c .before .potential-held .result) (c .group-labels .result) (c .before .potential-held .ensures) (c .group-labels .ensures)

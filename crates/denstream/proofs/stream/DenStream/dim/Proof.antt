@@ -8,7 +8,6 @@ cut-requires : tie.Need-cut-requires
 cut-requires c κs = search needs
 
 returns : tie.Need-returns
-unfolding view
 returns c = c .cut .ensures
 
 pub dim-spec : {M : Type 1} → statement M

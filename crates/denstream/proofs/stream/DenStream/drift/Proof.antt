@@ -8,7 +8,6 @@ report-requires : tie.Need-report-requires
 report-requires c κs = search needs
 
 returns : tie.Need-returns
-unfolding view
 returns c = c .report .ensures
 
 pub drift-spec : {M : Type 1} → statement M

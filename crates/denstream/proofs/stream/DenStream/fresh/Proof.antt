@@ -14,7 +14,6 @@ new-requires-2 : tie.Need-new-requires-2
 new-requires-2 c κs = search needs
 
 returns : tie.Need-returns
-unfolding view
 returns c = rw (c .new2 .ensures, c .before .tp .ensures)
 
 pub fresh-spec : {M : Type 1} → statement M

@@ -13,7 +13,6 @@ potential-held-requires : tie.Need-potential-held-requires
 potential-held-requires c κs = search needs
 
 returns : tie.Need-returns
-unfolding view
 returns c =
     let e = c .before in
     let s = e .args .self in

@@ -22,7 +22,6 @@ pruned-requires-2 : tie.Need-pruned-requires-2
 pruned-requires-2 c κs = search needs
 
 returns : tie.Need-returns
-unfolding view
 returns c =
     let e = c .before .before .before .before .before .before .before .before .before in
     let s = e .args .self in

@@ -19,7 +19,6 @@ use Rattle.denstream.proofs.stream.DenStream.taken.Statement.{statement
 use Rattle.denstream.proofs.stream.DenStream.taken.Tie as tie
 
 returns : tie.Need-returns
-unfolding view
 returns c =
     let a = c .before .args in
     (when-refused (a .done) (tickOf (withPools (a .t1) (pooledIn (a .t1) (a .p))) (a .p .near)) (view (a .t1)) (not-true _ (c .if1 .taken)), λ q. refl)
@@ -112,7 +111,6 @@ tick-requires : tie.Need-tick-requires
 tick-requires c κs = search needs
 
 returns-3 : tie.Need-returns-3
-unfolding view
 returns-3 c =
     let a = c .before .before .before .before .before .before .args in
     let s = withPools (a .t1) (pooledIn (a .t1) (a .p)) in

@@ -25,14 +25,12 @@ pruned-requires : tie.Need-pruned-requires
 pruned-requires c κs = search needs
 
 returns : tie.Need-returns
-unfolding view
 returns c =
     let k = c .before .before .before .before .before .before .before in
     let a = k .before .before .before .before .args in
     tick-prunes (a .self) (a .near) (k .tick .result) (told k) (view (c .pruned .result)) (c .before .before .before .before .before .if1 .taken) (c .pruned .ensures)
 
 returns-2 : tie.Need-returns-2
-unfolding view
 returns-2 c =
     let k = c .before .before .before .before .before .before in
     let a = k .before .before .before .before .args in

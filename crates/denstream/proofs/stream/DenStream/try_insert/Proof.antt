@@ -33,7 +33,6 @@ met :
     (c : tie.After-insertion-asked) →
     let a = c .before .before .before .before .before .before .before .before .before .args in
     Met (view (a .self)) (a .x .now) (take (min (a .self .params .settings .dim) 15) (c .before .before .before .before .before .padded .result)) (c .before .before .before .before .before .before .cut .result) (c .before .before .place .result) (c .insertion-asked .result)
-unfolding view
 met c =
     let a = c .before .before .before .before .before .before .before .before .before .args in
     let s = a .self in
@@ -53,7 +52,6 @@ taken-requires : tie.Need-taken-requires
 taken-requires c κs = (placing (met (c .before)) .ready, room (met (c .before)) (c .is-done .result) (c .is-done .ensures))
 
 returns : tie.Need-returns
-unfolding view
 returns c =
     let e = c .before .before in
     let m = met e in
