@@ -33,6 +33,7 @@ impl Opening {
         }
     }
 
+    // Whether no question was answered with no: the stream beside it is open.
     pub fn is_open(self) -> bool
         ensures { λ r. ⌜ r ≡ isOpen self ⌝ }
     {
@@ -64,6 +65,7 @@ impl Insertion {
         }
     }
 
+    // Whether the point was taken.
     pub fn is_done(self) -> bool
         ensures { λ r. ⌜ r ≡ isDone self ⌝ }
     {

@@ -43,6 +43,7 @@ pub struct Ticked {
 }
 
 impl Clock {
+    // A stream's clock: its tick, its period and its monitor.
     pub fn at(t: f64, period: f64, drift: DriftMonitor) -> Clock
         ensures { λ r. ⌜ r ≡ record { t = t; period = period; drift = drift } ⌝ }
     {

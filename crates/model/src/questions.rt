@@ -7,6 +7,7 @@ ghost use mathlib.Core.Path.{_≡_};
 ghost use Rattle.model.specs.Questions.{dimInRange, lambdaInRange, shareInRange, firstNo, questions, insertionAsked};
 ghost use Rattle.model.specs.Questions as doc;
 
+// From 1 to 15.
 pub fn dim_in_range(dim: usize) -> bool
     ensures { λ r. ⌜ r ≡ dimInRange dim ⌝ }
 {

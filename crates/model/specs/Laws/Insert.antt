@@ -64,9 +64,10 @@ module _ (dim got : ℕ) (t : Float) where
 pub given-back : {S : Type 0} (a : Insertion) (b : Bool) (r came : S) → b ≡ isDone a → (b ≡ false → r ≡ came) → insertionNumber a ≢ 0 → r ≡ came
 given-back a b r came h same refusal = same (h ∙ ne-eqb (insertionNumber a) 0 refusal)
 
--- what becomes of a stream goes by whether the point is taken
-pub when-done : {S : Type 0} (b : Bool) (taken came : S) → b ≡ true → taken ≡ cond b taken came
-when-done b taken came e = sym (ap (λ (q : Bool). cond q taken came) e)
+-- what becomes of a stream goes by whether the point is taken: both clauses of it, as view sees it and as it came
+module _ {S R : Type 0} (view : R → S) (done : Bool) (taken : S) (came : R) where
+  pub when-refused : done ≡ false → (view came ≡ cond done taken (view came)) × (done ≡ false → came ≡ came)
+  when-refused e = (sym (ap (λ (q : Bool). cond q taken (view came)) e), λ q. refl)
 
-pub when-refused : {S : Type 0} (b : Bool) (taken came : S) → b ≡ false → came ≡ cond b taken came
-when-refused b taken came e = sym (ap (λ (q : Bool). cond q taken came) e)
+  pub when-done : (r : R) → done ≡ true → view r ≡ taken → (view r ≡ cond done taken (view came)) × (done ≡ false → r ≡ came)
+  when-done r e is = (is ∙ sym (ap (λ (q : Bool). cond q taken (view came)) e), λ q. never (sym q ∙ e))

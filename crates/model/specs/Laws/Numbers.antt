@@ -1,5 +1,6 @@
 -- Each opening and each insert is refused with document 01's number and values. Assumes nothing.
 use mathlib.Core.Path.{_≡_, refl, ap, _∙_}
+use mathlib.Core.Logic.{_≢_}
 use mathlib.Core.Bool.{Bool, true, false, cond}
 use mathlib.Core.List.{List, [], _∷_, map}
 use lib.Dec.{eqb}
@@ -7,12 +8,14 @@ use lib.Ieee.{Float, lt}
 use lib.ListN.{length}
 use Rattle.model.specs.declared.answers.Opening.{Opening}
 use Rattle.model.specs.declared.answers.Opening.the-variants.{Open}
+use Rattle.model.specs.declared.answers.Insertion.{Insertion}
 use Rattle.model.specs.declared.answers.Insertion.the-variants.{Done, Shape, ClockAtLimit, NoPlace}
 use Rattle.model.specs.Limits.{clockLimit}
-use Rattle.model.specs.Answers.{openingNumber}
+use Rattle.model.specs.Answers.{openingNumber, insertionNumber, isDone}
 use Rattle.model.specs.Questions.{firstNo}
 use Rattle.model.specs.Numbers.{dbOpeningNo, denOpeningNo, insertionNo, insertionSaid}
 use Rattle.model.specs.Outcome.{Opened, Outcome}
+use Rattle.model.specs.Laws.Insert.{given-back}
 use Rattle.model.specs.Stream.{State, Kind, asked, openOf, hasPlace, insertBy, insertOf}
 use Rattle.model.specs.DbState as db
 use Rattle.model.specs.DenState as den
@@ -39,6 +42,14 @@ insertion-said {S} {P} {H} k s x o e =
     ap (λ (q : Outcome (State P H)). insertionSaid (q .answer)) e
     ∙ first-no insertionSaid
     ((eqb (length x) (k .dim (s .params)), Shape (k .dim (s .params)) (length x)) ∷ (lt (s .t) clockLimit, ClockAtLimit) ∷ (hasPlace k s x, NoPlace) ∷ []) Done
+
+-- the three clauses of an insert, from the first: its answer a, v what becomes of s, r the stream that stands for it, came the one that came
+pub inserted-as :
+    {S P H R : Type 0} (k : Kind S P H) (s : State P H) (x : List Float) (a : Insertion) (v : State P H) (done : Bool) (r came : R) →
+    _≡_ {A = Outcome (State P H)} (record { answer = a; stream = v }) (insertOf k s x) → done ≡ isDone a → (done ≡ false → r ≡ came) →
+    (_≡_ {A = Outcome (State P H)} (record { answer = a; stream = v }) (insertOf k s x))
+    × ((insertionNumber a ≢ 0 → r ≡ came) × (insertionSaid a ≡ insertionNo (k .dim (s .params)) (length x) (s .t) (hasPlace k s x)))
+inserted-as k s x a v done r came told eb kept = (told, (given-back a done r came eb kept, insertion-said k s x _ told))
 
 -- an opening: the first no's number
 opening-said :

@@ -1,4 +1,4 @@
--- The questions of an opening: where a stream opens, each was answered with yes. Assumes nothing.
+-- The questions of an opening: where a stream opens, each was answered with yes; and what an opening gives. Assumes nothing.
 use Prim.Native.Nat.{ℕ, _≤_, min}
 use native.Mathlib.Omega.{arith}
 use mathlib.Core.Path.{_≡_, refl, sym, ap, ap₂, _∙_}
@@ -9,7 +9,7 @@ use lib.Dec.{leb}
 use Rattle.feature.specs.Feature.{maxDim}
 use Rattle.model.specs.declared.answers.Opening.{Opening}
 use Rattle.model.specs.declared.answers.Opening.the-variants.{Open}
-use Rattle.model.specs.Answers.{isOpen}
+use Rattle.model.specs.Answers.{openingNumber, isOpen}
 use Rattle.model.specs.Questions.{firstNo, dimInRange}
 use Rattle.model.specs.Outcome.{Opened}
 use Rattle.model.specs.Laws.Insert.{never}
@@ -35,29 +35,38 @@ all-yes (q ∷ qs) r h = go (q .0) refl h (all-yes qs (r .1))
     go false e k ih = never (sym (r .0) ∙ k)
 
 -- an accepted dim is not cut
-both : (a b : Bool) → (a && b) ≡ true → b ≡ true
-both true b e = e
-both false b e = never e
+second-yes : (a b : Bool) → (a && b) ≡ true → b ≡ true
+second-yes true b e = e
+second-yes false b e = never e
 
 pub uncut : (dim : ℕ) → dimInRange dim ≡ true → min dim maxDim ≡ dim
-uncut dim e = let h : dim ≤ 15 = leb-true dim 15 (both (leb 1 dim) (leb dim 15) e) in omega arith
+uncut dim e =
+    let low : dim ≤ maxDim = leb-true dim maxDim (second-yes (leb 1 dim) (leb dim maxDim) e) in
+    omega arith
 
--- ---- one question more
+-- ---- one question more: asked only where the others were all answered with yes
 module _ (last : Bool × Opening) where
-  pub none-open : (qs : List (Bool × Opening)) → isOpen (firstNo qs Open) ≡ false → firstNo (qs ++ last ∷ []) Open ≡ firstNo qs Open
-  none-open [] h = never (sym h)
-  none-open (q ∷ qs) h = go (q .0) (none-open qs) h
-    where
-      go :
-          (b : Bool) → (isOpen (firstNo qs Open) ≡ false → firstNo (qs ++ last ∷ []) Open ≡ firstNo qs Open) →
-          isOpen (cond b (firstNo qs Open) (q .1)) ≡ false →
-          cond b (firstNo (qs ++ last ∷ []) Open) (q .1) ≡ cond b (firstNo qs Open) (q .1)
-      go true ih k = ih k
-      go false ih k = refl
+  abbrev more : List (Bool × Opening) → Opening
+  more qs = firstNo (qs ++ last ∷ []) Open
 
-  pub all-open : (qs : List (Bool × Opening)) → AllYes qs → firstNo (qs ++ last ∷ []) Open ≡ cond (last .0) Open (last .1)
-  all-open [] y = refl
-  all-open (q ∷ qs) y = ap (λ (b : Bool). cond b (firstNo (qs ++ last ∷ []) Open) (q .1)) (y .0) ∙ all-open qs (y .1)
+  abbrev asking : Opening → Opening
+  asking a = cond (isOpen a) (cond (last .0) Open (last .1)) a
+
+  asked-more : (qs : List (Bool × Opening)) → Refusals qs → asking (firstNo qs Open) ≡ more qs
+  asked-more [] r = refl
+  asked-more (q ∷ qs) r = go (q .0) (asked-more qs (r .1))
+    where
+      go : (b : Bool) → asking (firstNo qs Open) ≡ more qs → asking (cond b (firstNo qs Open) (q .1)) ≡ cond b (more qs) (q .1)
+      go true ih = ih
+      go false ih = ap (λ (c : Bool). cond c (cond (last .0) Open (last .1)) (q .1)) (r .0)
+
+  -- a is the others' answer
+  pub one-more :
+      (qs : List (Bool × Opening)) → Refusals qs →
+      (a : Opening) (others this : Bool) → a ≡ firstNo qs Open → isOpen a ≡ others → last .0 ≡ this →
+      cond others (cond this Open (last .1)) a ≡ more qs
+  one-more qs r a others this e eo et =
+      ap₂ (λ (o t : Bool). cond o (cond t Open (last .1)) a) (sym eo) (sym et) ∙ ap asking e ∙ asked-more qs r
 
 -- ---- an opening of a stream of any kind
 module _ {S P H : Type 0} (k : Kind S P H) (p : S) where
@@ -65,10 +74,30 @@ module _ {S P H : Type 0} (k : Kind S P H) (p : S) where
   unfolding asked
   opens-yes = all-yes (k .questions p)
 
-  -- a is the answer, v the stream beside it
-  pub opened-by :
-      (a : Opening) (b : Bool) (v : State P H) → a ≡ asked k p → isOpen a ≡ b → v ≡ cond b (fresh k p) (fresh k (k .zeros)) →
-      _≡_ {A = Opened (State P H)} (record { answer = a; stream = v }) (openOf k p)
-  opened-by a b v e t ev =
-      ap₂ (λ (q : Opening) (s : State P H). record { answer = q; stream = s }) e
-      (ev ∙ ap (λ (q : Bool). cond q (fresh k p) (fresh k (k .zeros))) (sym t ∙ ap isOpen e))
+  -- p is of dim coordinates, about which its questions ask; no is the number of their first no
+  module _
+      (dim : ℕ) (of : ℕ → S) (is : of dim ≡ p)
+      (r : Refusals (k .questions p)) (asks : AllYes (k .questions p) → dimInRange dim ≡ true)
+      (no : ℕ) (said : (o : Opened (State P H)) → o ≡ openOf k p → openingNumber (o .answer) ≡ no) where
+    -- a stream that opens has dim coordinates: they are not cut
+    whole : isOpen (asked k p) ≡ true → fresh k (of (min dim maxDim)) ≡ fresh k p
+    whole opens =
+        let low : dimInRange dim ≡ true = asks (opens-yes r opens) in
+        ap (fresh k) (ap of (uncut dim low) ∙ is)
+
+    -- both clauses of an opening: a is the answer, v the stream beside it, of at most 15 coordinates
+    pub opened-as :
+        (a : Opening) (b : Bool) (v : State P H) → a ≡ asked k p → isOpen a ≡ b →
+        v ≡ cond b (fresh k (of (min dim maxDim))) (fresh k (k .zeros)) →
+        (_≡_ {A = Opened (State P H)} (record { answer = a; stream = v }) (openOf k p)) × (openingNumber a ≡ no)
+    opened-as a b v e t ev =
+        let stands : v ≡ cond (isOpen (asked k p)) (fresh k p) (fresh k (k .zeros)) = ev ∙ go b (ap isOpen (sym e) ∙ t) in
+        let opened : _≡_ {A = Opened (State P H)} (record { answer = a; stream = v }) (openOf k p) =
+        ap₂ (λ (q : Opening) (s : State P H). record { answer = q; stream = s }) e stands in
+        (opened, said _ opened)
+      where
+        go :
+            (b : Bool) → isOpen (asked k p) ≡ b →
+            cond b (fresh k (of (min dim maxDim))) (fresh k (k .zeros)) ≡ cond (isOpen (asked k p)) (fresh k p) (fresh k (k .zeros))
+        go true h = whole h ∙ ap (λ (q : Bool). cond q (fresh k p) (fresh k (k .zeros))) (sym h)
+        go false h = ap (λ (q : Bool). cond q (fresh k p) (fresh k (k .zeros))) (sym h)

@@ -36,7 +36,8 @@ at-more b k y l p g e = rw e (record { ticks = k; some = omega arith; most = l; 
 
 at-whole : (b k : ℕ) (y : Float) → 0 < b → k ≤ b → Is y k → Period b (larger one y)
 at-whole b k y h l p =
-    by-cases (decLt 1 k) (λ g. at-more b k y l p g (lt-is one y 1 k one-is p ∙ lt-ltb 1 k g)) (λ g. at-one b h y (lt-is one y 1 k one-is p ∙ le-ltb 1 k (omega arith)))
+    by-cases (decLt 1 k) (λ g. at-more b k y l p g (lt-is one y 1 k one-is p ∙ lt-ltb 1 k g))
+    (λ g. at-one b h y (lt-is one y 1 k one-is p ∙ le-ltb 1 k (omega arith)))
 
 -- ---- so "max(1, ceil(x))" is, where x is a NaN, which loses to 1, or from 0 to b
 pub data UpTo (b : ℕ) : Float → Type 0 where

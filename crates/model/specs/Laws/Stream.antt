@@ -1,9 +1,9 @@
--- What holds of a stream of any kind: its tick and its insert. Assumes nothing.
+-- What holds of a stream of any kind: its tick, its insert, its labels. Assumes nothing.
 use Prim.Native.Nat.{ℕ}
 use mathlib.Core.Path.{_≡_, refl, sym, ap, ap₂, _∙_, subst}
 use mathlib.Core.Logic.{_≢_}
 use mathlib.Core.Bool.{Bool, true, false, cond}
-use mathlib.Core.List.{List}
+use mathlib.Core.List.{List, []}
 use lib.Ieee.{Float, lt}
 use lib.ListN.{length}
 use Rattle.float.specs.Rounded.{_⊕_, one}
@@ -15,9 +15,10 @@ use Rattle.model.specs.Limits.{clockLimit}
 use Rattle.model.specs.Answers.{isDone}
 use Rattle.model.specs.Questions.{insertionAsked}
 use Rattle.model.specs.Fading.{isMultiple}
+use Rattle.model.specs.Ticking.{Tick}
 use Rattle.model.specs.Outcome.{Outcome, outcome}
-use Rattle.model.specs.Laws.Insert.{asked-cases, same-answer, taken-asks}
-use Rattle.model.specs.Stream.{State, Kind, holding, taking, advanced, tickOf, takenOf, hasPlace, insertBy, insertOf}
+use Rattle.model.specs.Laws.Insert.{never, asked-cases, same-answer, taken-asks}
+use Rattle.model.specs.Stream.{State, Kind, holding, taking, advanced, cleanedOf, tickOf, takenOf, hasPlace, insertBy, insertOf, clusterOf}
 
 module _ {S P H : Type 0} (k : Kind S P H) where
   -- ---- the tick
@@ -34,15 +35,9 @@ module _ {S P H : Type 0} (k : Kind S P H) where
     unfolding tickOf
     tick-drift = refl
 
-    pub tick-still : isMultiple (s .t ⊕ one) (k .period (s .params)) ≡ false → advanced s d ≡ tickOf k s d
+    pub tick-labels : tickOf k s d .labels ≡ s .labels
     unfolding tickOf
-    tick-still e = sym (ap (λ (b : Bool). holding (advanced s d) (cond b (k .cleaned (s .params) (s .t ⊕ one) (s .held)) (s .held))) e)
-
-    pub tick-cleans :
-        isMultiple (s .t ⊕ one) (k .period (s .params)) ≡ true →
-        holding (advanced s d) (k .cleaned (s .params) (s .t ⊕ one) (s .held)) ≡ tickOf k s d
-    unfolding tickOf
-    tick-cleans e = sym (ap (λ (b : Bool). holding (advanced s d) (cond b (k .cleaned (s .params) (s .t ⊕ one) (s .held)) (s .held))) e)
+    tick-labels = refl
 
     -- with a cleanup, or without
     pub tick-cases :
@@ -54,6 +49,26 @@ module _ {S P H : Type 0} (k : Kind S P H) where
         go : (b : Bool) → Q (holding (advanced s d) (cond b (k .cleaned (s .params) (s .t ⊕ one) (s .held)) (s .held)))
         go true = due
         go false = still
+
+    -- q is what the clock tells: the tick is s at that time with that monitor, cleaned where that is due
+    module _
+        (q : Tick)
+        (told : q ≡ record { t = s .t ⊕ one; drift = observeOf (s .drift) d (s .t); due = isMultiple (s .t ⊕ one) (k .period (s .params)) }) where
+      abbrev at : Tick → State P H
+      at u = record { params = s .params; t = u .t; held = s .held; labels = s .labels; drift = u .drift }
+
+      pub ticked : (due : Bool) (v : State P H) → q .due ≡ due → v ≡ cond due (cleanedOf k (at q)) (at q) → v ≡ tickOf k s d
+      unfolding tickOf
+      ticked due v e ev =
+          ev ∙ ap (λ (b : Bool). cond b (cleanedOf k (at q)) (at q)) (sym e) ∙ ap (λ (u : Tick). cond (u .due) (cleanedOf k (at u)) (at u)) told
+          ∙ go (isMultiple (s .t ⊕ one) (k .period (s .params)))
+        where
+          go :
+              (b : Bool) →
+              cond b (cleanedOf k (advanced s d)) (advanced s d)
+              ≡ holding (advanced s d) (cond b (k .cleaned (s .params) (s .t ⊕ one) (s .held)) (s .held))
+          go true = refl
+          go false = refl
 
   -- ---- the insert
   module _ (place : State P H → List Float → Bool) (s : State P H) (x : List Float) where
@@ -89,3 +104,14 @@ module _ {S P H : Type 0} (k : Kind S P H) where
       (place : State P H → List Float → Bool) (s : State P H) (x : List Float) → insertBy k place s x .answer ≢ Done → insertBy k place s x .stream ≡ s
   refused-nothing place s x =
       insert-cases place s x (λ (r : Outcome (State P H)). r .answer ≢ Done → r .stream ≡ s) (λ a h q. refl) (λ l e q. absurd (q refl))
+
+  -- ---- labels: "Insert clears labels.", a refused one keeps them, a cluster leaves its own
+  pub insert-clears :
+      (place : State P H → List Float → Bool) (s : State P H) (x : List Float) → insertBy k place s x .answer ≡ Done →
+      insertBy k place s x .stream .labels ≡ []
+  insert-clears place s x =
+      insert-cases place s x (λ (r : Outcome (State P H)). r .answer ≡ Done → r .stream .labels ≡ [])
+      (λ a h q. never (sym h ∙ ap isDone q)) (λ l e q. tick-labels (taking s (k .placed s x)) (k .nearestFor s x))
+
+  pub cluster-labels : (s : State P H) → clusterOf k s .labels ≡ k .labelsOf s
+  cluster-labels s = refl

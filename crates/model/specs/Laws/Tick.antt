@@ -37,10 +37,14 @@ unfolding ticksOf
 ticks-are x n h p =
     by-cases (ℕ-discrete n 0)
     (λ z. rw (lt-is nought x 0 n none-is p ∙ le-ltb 0 n (omega arith)) (sym z))
-    (λ z. rw (lt-is nought x 0 n none-is p ∙ lt-ltb 0 n (omega arith), lt-is x ticksMost n (2 ^ 63) p most-is ∙ lt-ltb n (2 ^ 63) (omega arith)) (cut-is x n h p))
+    (λ z.
+    rw (lt-is nought x 0 n none-is p ∙ lt-ltb 0 n (omega arith), lt-is x ticksMost n (2 ^ 63) p most-is ∙ lt-ltb n (2 ^ 63) (omega arith))
+    (cut-is x n h p))
 
 -- "if t is a multiple of t_gap": the Rust's `t % t_gap == 0.0`
-pub multiple-of-doubles : (t period : Float) (n k : ℕ) → n ≤ 2 ^ 53 → 0 < k → k ≤ 2 ^ 53 → Is t n → Is period k → isMultiple t period ≡ eq (rem binary64 t period) nought
+pub multiple-of-doubles :
+    (t period : Float) (n k : ℕ) → n ≤ 2 ^ 53 → 0 < k → k ≤ 2 ^ 53 → Is t n → Is period k →
+    isMultiple t period ≡ eq (rem binary64 t period) nought
 multiple-of-doubles t period n k h z l p q =
     rw (ticks-are t n h p, ticks-are period k l q, ne-eqb k 0 (λ e. omega arith), rem-is t period n k z p q)
     (sym (eq-is (whole (n % k)) nought (n % k) 0 (whole-is (n % k) (le-trans (le-of-lt (mod-lt n z)) l)) none-is))

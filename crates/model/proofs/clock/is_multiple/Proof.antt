@@ -22,7 +22,9 @@ ticks-requires : tie.Need-ticks-requires
 ticks-requires c κs = search needs
 
 returns : tie.Need-returns
-returns c = none (ticksOf (c .before .before .args .period)) (ticksOf (c .before .before .args .t)) (sym (c .before .ticks .ensures) ∙ c .if1 .taken)
+returns c =
+    let a = c .before .before .args in
+    none (ticksOf (a .period)) (ticksOf (a .t)) (sym (c .before .ticks .ensures) ∙ c .if1 .taken)
 
 ticks-requires-2 : tie.Need-ticks-requires-2
 ticks-requires-2 c κs = search needs
@@ -31,7 +33,9 @@ rem-result : tie.Need-rem-result
 rem-result c = search needs
 
 returns-2 : tie.Need-returns-2
-returns-2 c = rw (← c .ticks2 .ensures, ← c .before .before .ticks .ensures) (some (c .before .before .ticks .result) (c .ticks2 .result) (c .before .if1 .left))
+returns-2 c =
+    let period = c .before .before .ticks in
+    rw (← c .ticks2 .ensures, ← period .ensures) (some (period .result) (c .ticks2 .result) (c .before .if1 .left))
 
 pub is-multiple-spec : {M : Type 1} → statement M
 is-multiple-spec =

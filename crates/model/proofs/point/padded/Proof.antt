@@ -6,13 +6,14 @@ use mathlib.Core.List.{List, _++_}
 use native.Mathlib.Omega.{arith}
 use lib.Ieee.{Float, nan}
 use Rattle.float.specs.Rounded.{nought}
+use Rattle.feature.specs.Feature.{maxDim}
 use Rattle.model.proofs.Padding.{padded-goes, padded-ends}
 use borrow.Author.Needs.{needs}
 use Rattle.model.proofs.point.padded.Statement.{statement}
 use Rattle.model.proofs.point.padded.Tie as tie
 
 abbrev Inv-loop : tie.InvT-loop
-Inv-loop x n p₀ i₀ p i = (i ≤ n) × (length p ≡ 15) × (p ≡ take i x ++ drop i (replicate 15 nought))
+Inv-loop x n p₀ i₀ p i = (i ≤ n) × (length p ≡ maxDim) × (p ≡ take i x ++ drop i (replicate maxDim nought))
 
 abbrev μ-loop : tie.MeasureT-loop
 μ-loop x n p₀ i₀ p i = n - i
