@@ -1,4 +1,4 @@
--- An insert into the arrays, seen through the view.
+-- An insert into the arrays, seen through the view. Assumes nothing.
 use Prim.Native.Nat.{ℕ, _+_, _%_, _^_, _≤_, _<_, min}
 use native.Mathlib.Omega.{arith}
 use native.Mathlib.Decide.{ℕ-discrete, decLt}
@@ -23,7 +23,7 @@ use Rattle.model.specs.Limits.{microsMost}
 use Rattle.model.specs.Answers.{isDone}
 use Rattle.model.specs.Questions.{insertionAsked}
 use Rattle.model.specs.Laws.Stream.{inserted-by}
-use Rattle.model.specs.DbState.{State}
+use Rattle.model.specs.DbState.{Holdings, State}
 use Rattle.model.specs.DbInsert.{isNeighbour, neighboursOf, isAbsorbed, newborn, absorbs, absorbed, pairsOf, gainOf, born, joined, placed}
 use Rattle.model.specs.Dbstream.{dbstream, tickOf, hasPlace, insertOf}
 use Rattle.db_neighbours.specs.declared.scan.Scan.{Scan}
@@ -118,15 +118,19 @@ module _ {s : DbStream} {x y : List Float} {d : ℕ} {f : Scan} (m : Met s x y d
 
   micros-born : f .count ≡ 0 → s .count < microsMost → microsBy s f y ≡ view s .held .micros ++ newborn (dimOf s) (s .«next_id») (s .t) x ∷ []
   micros-born z h =
+      let new-is : cutTo (dimOf s) (newborn maxDim (s .«next_id») (s .t) y) ≡ newborn (dimOf s) (s .«next_id») (s .t) x =
+      ap (λ (q : List Float). cutTo (dimOf s) (newborn maxDim (s .«next_id») (s .t) q)) (m .point ex)
+      ∙ newborn-view (dimOf s) x (ex ∙ m .coordinates) (omega arith) (s .t) (s .«next_id») in
       rw (eq-eqb (f .count) 0 z, lt-ltb (s .count) microsMost h)
       (map-append (cutTo (dimOf s)) (take (s .count) (s .micros)) (newborn maxDim (s .«next_id») (s .t) y ∷ [])
-      ∙ ap (λ (v : DbMicro). view s .held .micros ++ v ∷ [])
-      (ap (λ (q : List Float). cutTo (dimOf s) (newborn maxDim (s .«next_id») (s .t) q)) (m .point ex) ∙ newborn-view (dimOf s) x (ex ∙ m .coordinates) (omega arith) (s .t) (s .«next_id»)))
+      ∙ ap (λ (v : DbMicro). view s .held .micros ++ v ∷ []) new-is)
 
   micros-absorbed : f .count ≢ 0 → microsBy s f y ≡ map (absorbed (s .params .settings .r) (s .params .settings .lambda) (s .t) x) (view s .held .micros)
   micros-absorbed h =
+      let absorbing : List Float → List Float → List DbMicro =
+      λ z q. map (cutTo (dimOf s)) (absorbNear (s .params .settings .r ⊗ s .params .settings .r) (absorbs (s .params .settings .lambda) (s .t) z) q (take (s .count) (s .micros))) in
       rw (ne-eqb (f .count) 0 h)
-      (ap₂ (λ (z q : List Float). map (cutTo (dimOf s)) (absorbNear (s .params .settings .r ⊗ s .params .settings .r) (absorbs (s .params .settings .lambda) (s .t) z) q (take (s .count) (s .micros)))) (m .point ex) (ap (λ (q : Scan). q .distances) met)
+      (ap₂ absorbing (m .point ex) (ap (λ (q : Scan). q .distances) met)
       ∙ absorb-view (dimOf s) x (ex ∙ m .coordinates) (s .params .settings .r) (s .params .settings .lambda) (s .t) (take (s .count) (s .micros)))
 
   -- no pair, no gain
@@ -137,19 +141,29 @@ module _ {s : DbStream} {x y : List Float} {d : ℕ} {f : Scan} (m : Met s x y d
 
   placed-is : (f .count ≡ 0 → s .count < microsMost) → heldBy s f y ≡ placed (view s) x
   placed-is free =
-      by-cases (ℕ-discrete (f .count) 0)
-      (λ h.
-      ap (λ (q : MicroId). holds q (microsBy s f y) (gainedBy s f)) (rw (eq-eqb (f .count) 0 h, lt-ltb (s .count) microsMost (free h)) refl)
-      ∙ ap₂ (holds (record { 0 = (s .«next_id» .0 + 1) % 2 ^ 64 })) (micros-born h (free h)) (links-stay h)
-      ∙ sym (ap (λ (c : Bool). cond c (joined (view s) x) (born (view s) x)) (none h)))
-      (λ h.
-      ap (λ (q : MicroId). holds q (microsBy s f y) (gainedBy s f)) (rw (ne-eqb (f .count) 0 h) refl)
-      ∙ ap₂ (holds (s .«next_id»)) (micros-absorbed h)
-      (ap (λ (q : Scan). foldl (gainOf (s .params .settings .lambda) (s .t)) (view s .held .links) (pairsOf (q .ids))) met)
-      ∙ sym (ap (λ (c : Bool). cond c (joined (view s) x) (born (view s) x)) (some h)))
+      by-cases (ℕ-discrete (f .count) 0) (λ h. alone h ∙ sym (ap way (none h))) (λ h. among h ∙ sym (ap way (some h)))
+    where
+      way : Bool → Holdings
+      way c = cond c (joined (view s) x) (born (view s) x)
+
+      numbered : MicroId → Holdings
+      numbered q = holds q (microsBy s f y) (gainedBy s f)
+
+      alone : f .count ≡ 0 → heldBy s f y ≡ born (view s) x
+      alone h =
+          ap numbered (rw (eq-eqb (f .count) 0 h, lt-ltb (s .count) microsMost (free h)) refl)
+          ∙ ap₂ (holds (record { 0 = (s .«next_id» .0 + 1) % 2 ^ 64 })) (micros-born h (free h)) (links-stay h)
+
+      among : f .count ≢ 0 → heldBy s f y ≡ joined (view s) x
+      among h =
+          ap numbered (rw (ne-eqb (f .count) 0 h) refl)
+          ∙ ap₂ (holds (s .«next_id»)) (micros-absorbed h)
+          (ap (λ (q : Scan). foldl (gainOf (s .params .settings .lambda) (s .t)) (view s .held .links) (pairsOf (q .ids))) met)
 
 -- ---- the whole insert
-module _ {s : DbStream} {x y : List Float} {d : ℕ} {f : Scan} (m : Met s x y d f) (a : Insertion) (place : Bool) (ep : place ≡ hasPlaceBy f (s .count)) (e : a ≡ insertionAsked d (length x) (s .t) place) where
+module _
+    {s : DbStream} {x y : List Float} {d : ℕ} {f : Scan} (m : Met s x y d f)
+    (a : Insertion) (place : Bool) (ep : place ≡ hasPlaceBy f (s .count)) (e : a ≡ insertionAsked d (length x) (s .t) place) where
   -- v is what becomes of the stream, by whether the answer is no refusal
   pub inserted :
       (b : Bool) (v : State) → b ≡ isDone a → v ≡ cond b (tickOf (placedBy s f y) (toldOf s f y)) (view s) →

@@ -1,4 +1,6 @@
+-- What only the proofs here use.
 pub mod Openings
-pub mod Ticks
+pub mod Cleanups
+pub mod Places
 pub mod Inserts
 pub mod Labels

@@ -70,6 +70,7 @@ impl DbStream {
         self.tick(near)
     }
 
+    // The questions in order; a point that none refuses is taken, and a refused stream is the one that came.
     pub fn try_insert(self, x: &[f64]) -> Inserted
         ensures { λ r. ⌜ insertedTold r ≡ insertOf (view self) (now (x .entry)) ⌝ }
         ensures kept { λ r. ⌜ (insertionNumber (r .answer) ≢ 0 → r .stream ≡ self) ⌝ }
@@ -77,13 +78,13 @@ impl DbStream {
             ≡ insertionNo (view self .params .settings .dim) (length (now (x .entry))) (self .t) (hasPlace (view self) (now (x .entry))) ⌝ }
     {
         let dim = lists::cut(self.params.settings.dim, MAX_DIM);
-        let n = self.count;
-        let p = model::padded(x);
+        let point = model::padded(x);
         let micros = self.micros;
-        let scan = db_neighbours::scan_for(micros, n, p, dim, self.params.settings.r);
+        let n = self.count;
+        let scan = db_neighbours::scan_for(micros, n, point, dim, self.params.settings.r);
         let place = scan.has_place(n);
         let answer = model::insertion_asked(dim, x.len(), self.t, place);
-        let stream = self.taken(answer.is_done(), scan, p, dim);
+        let stream = self.taken(answer.is_done(), scan, point, dim);
         Inserted { answer, stream }
     }
 }

@@ -10,8 +10,8 @@ use model::Link;
 use model::MICROS;
 use model::MicroId;
 use model::Opening;
-ghost use mathlib.Core.Path.{_≡_};
 ghost use Prim.Native.Nat.{min};
+ghost use mathlib.Core.Path.{_≡_};
 ghost use Rattle.feature.specs.Feature.{maxDim};
 ghost use Rattle.model.specs.Answers.{openingNumber};
 ghost use Rattle.model.specs.Numbers.{dbOpeningNo};
@@ -40,31 +40,26 @@ impl DbStream {
             value: 0.0,
             last: 0.0,
         };
-        let micros = [micro; MICROS];
-        let links = [link; LINKS];
-        let labels = [0i64; MICROS];
-        let t_gap = model::t_gap(settings.lambda);
-        let floor = model::floor(settings.lambda);
         let params = DbParams {
             settings,
-            t_gap,
-            floor,
+            t_gap: model::t_gap(settings.lambda),
+            floor: model::floor(settings.lambda),
         };
-        let drift = DriftMonitor::new(settings.r);
         DbStream {
             params,
             t: 0.0,
             next_id: id,
-            micros,
+            micros: [micro; MICROS],
             count: 0,
-            links,
+            links: [link; LINKS],
             link_count: 0,
-            labels,
+            labels: [0; MICROS],
             label_count: 0,
-            drift,
+            drift: DriftMonitor::new(settings.r),
         }
     }
 
+    // The questions in order: the first no decides.
     pub fn new(settings: DbSettings) -> Opened
         ensures { λ o. ⌜ openedTold o ≡ openOf settings ⌝ }
         ensures said { λ o. ⌜ openingNumber (o .answer) ≡ dbOpeningNo settings ⌝ }

@@ -28,18 +28,21 @@ pub struct DbStream {
 }
 
 impl DbStream {
+    // The coordinates of a point.
     pub fn dim(self) -> usize
         ensures { λ r. ⌜ r ≡ view self .params .settings .dim ⌝ }
     {
         lists::cut(self.params.settings.dim, MAX_DIM)
     }
 
+    // How many micro-clusters are held.
     pub fn micro_count(self) -> usize
         ensures { λ r. ⌜ r ≡ length (view self .held .micros) ⌝ }
     {
         lists::cut(self.count, MICROS)
     }
 
+    // The drift monitor's report.
     pub fn drift(self) -> DriftReport
         ensures { λ r. ⌜ r ≡ reportOf (view self .drift) ⌝ }
     {

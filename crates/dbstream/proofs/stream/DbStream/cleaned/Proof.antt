@@ -1,7 +1,8 @@
+-- `DbStream::cleaned` meets its contract. Assumes nothing.
 use mathlib.Core.Path.{ap}
 use Rattle.db_micro.specs.declared.cleanup.Micros.{Micros}
 use Rattle.db_link.specs.declared.stay.Links.{Links}
-use Rattle.dbstream.proofs.Ticks.{cleaned}
+use Rattle.dbstream.proofs.Cleanups.{cleaned}
 use borrow.Author.Needs.{needs}
 use Rattle.dbstream.proofs.stream.DbStream.cleaned.Statement.{statement}
 use Rattle.dbstream.proofs.stream.DbStream.cleaned.Tie as tie
@@ -17,10 +18,12 @@ retained-requires-2 c κs = search needs
 
 returns : tie.Need-returns
 returns c =
+    let s = c .before .before .before .before .before .before .before .args .self in
     let kept = c .before .before .before .before .before .retained in
+    let ids = c .before .before .before .ids-of in
     let bound = c .before .retained2 in
-    cleaned (c .before .before .before .before .before .before .before .args .self) (kept .result .count) (kept .result .micros) (c .before .before .before .ids-of .result) (bound .result .count) (bound .result .links)
-    (ap (λ (q : Micros). q .micros) (kept .ensures)) (c .before .before .before .ids-of .ensures) (ap (λ (q : Links). q .links) (bound .ensures))
+    cleaned s (kept .result .count) (kept .result .micros) (ids .result) (bound .result .count) (bound .result .links)
+    (ap (λ (q : Micros). q .micros) (kept .ensures)) (ids .ensures) (ap (λ (q : Links). q .links) (bound .ensures))
 
 pub cleaned-spec : {M : Type 1} → statement M
 cleaned-spec = tie.close (tie.spec retained-requires ids-of-requires retained-requires-2 returns)

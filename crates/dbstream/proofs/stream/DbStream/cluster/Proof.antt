@@ -1,3 +1,4 @@
+-- `DbStream::cluster` meets its contract. Assumes nothing.
 use Rattle.dbstream.proofs.Labels.{clustered}
 use borrow.Author.Needs.{needs}
 use Rattle.dbstream.proofs.stream.DbStream.cluster.Statement.{statement}

@@ -1,7 +1,4 @@
-use Prim.Native.Nat.{min}
-use Rattle.drift.specs.Monitor as drift
-use Rattle.dbstream.specs.View.{withDim}
-use Rattle.dbstream.proofs.Openings.{fresh-is}
+-- `DbStream::fresh` meets its contract. Assumes nothing.
 use borrow.Author.Needs.{needs}
 use Rattle.dbstream.proofs.stream.DbStream.fresh.Statement.{statement}
 use Rattle.dbstream.proofs.stream.DbStream.fresh.Tie as tie
@@ -19,9 +16,7 @@ new-requires-2 : tie.Need-new-requires-2
 new-requires-2 c κs = search needs
 
 returns : tie.Need-returns
-returns c =
-    let a = c .before .before .before .before .args in
-    fresh-is (withDim (a .settings) (min (a .settings .dim) 15)) (c .before .before .«t-gap» .result) (c .before .floor .result) (drift.view (c .new2 .result)) (c .before .before .«t-gap» .ensures) (c .before .floor .ensures) (c .new2 .ensures)
+returns c = rw (c .new2 .ensures, c .before .floor .ensures, c .before .before .«t-gap» .ensures)
 
 pub fresh-spec : {M : Type 1} → statement M
 fresh-spec = tie.close (tie.spec new-requires t-gap-requires floor-requires new-requires-2 returns)

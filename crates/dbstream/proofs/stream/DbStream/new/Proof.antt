@@ -1,7 +1,9 @@
+-- `DbStream::new` meets its contract. Assumes nothing.
 use mathlib.Core.Path.{sym, _∙_}
+use mathlib.Core.Bool.{true, false}
 use Rattle.model.specs.Stream.{asked}
 use Rattle.dbstream.specs.View.{view}
-use Rattle.dbstream.proofs.Openings.{opens, stays-shut, both}
+use Rattle.dbstream.proofs.Openings.{opened}
 use borrow.Author.Needs.{needs}
 use Rattle.dbstream.proofs.stream.DbStream.new.Statement.{statement}
 use Rattle.dbstream.proofs.stream.DbStream.new.Tie as tie
@@ -18,9 +20,10 @@ fresh-requires c κs = search needs
 returns : tie.Need-returns
 unfolding asked
 returns c =
-    let a = c .before .before .before .before .args in
-    both (a .settings) _
-    (opens (a .settings) (c .before .before .before .asked .result) (c .before .before .before .asked .ensures) (view (c .fresh .result)) (sym (c .before .before .«is-open» .ensures) ∙ c .before .if1 .taken) (c .fresh .ensures))
+    let p = c .before .before .before .before .args .settings in
+    let answer = c .before .before .before .asked in
+    let opens = sym (c .before .before .«is-open» .ensures) ∙ c .before .if1 .taken in
+    opened p (answer .result) true (view (c .fresh .result)) (answer .ensures) opens (c .fresh .ensures)
 
 fresh-requires-2 : tie.Need-fresh-requires-2
 fresh-requires-2 c κs = search needs
@@ -28,9 +31,10 @@ fresh-requires-2 c κs = search needs
 returns-2 : tie.Need-returns-2
 unfolding asked
 returns-2 c =
-    let a = c .before .before .before .before .args in
-    both (a .settings) _
-    (stays-shut (a .settings) (c .before .before .before .asked .result) (c .before .before .before .asked .ensures) (view (c .fresh2 .result)) (sym (c .before .before .«is-open» .ensures) ∙ c .before .if1 .left) (c .fresh2 .ensures))
+    let p = c .before .before .before .before .args .settings in
+    let answer = c .before .before .before .asked in
+    let stays = sym (c .before .before .«is-open» .ensures) ∙ c .before .if1 .left in
+    opened p (answer .result) false (view (c .fresh2 .result)) (answer .ensures) stays (c .fresh2 .ensures)
 
 pub new-spec : {M : Type 1} → statement M
 new-spec =

@@ -1,10 +1,12 @@
--- `tick` meets its contract. Assumes nothing.
-use mathlib.Core.Path.{_≡_, ap, _∙_}
+-- `DbStream::tick` meets its contract. Assumes nothing.
+use mathlib.Core.Path.{_≡_, refl, ap, _∙_}
+use mathlib.Core.Bool.{true, false}
 use borrow.Author.Needs.{needs}
 use Rattle.model.specs.declared.clock.Clock.{Clock}
 use Rattle.model.specs.Ticking.{tickTold, tickedOf}
+use Rattle.model.specs.Laws.Stream.{ticked}
+use Rattle.model.specs.Dbstream.{dbstream}
 use Rattle.dbstream.specs.View.{view}
-use Rattle.dbstream.proofs.Ticks.{tick-still, tick-cleans}
 use Rattle.dbstream.proofs.stream.DbStream.tick.Statement.{statement}
 use Rattle.dbstream.proofs.stream.DbStream.tick.Tie as tie
 
@@ -28,13 +30,15 @@ returns : tie.Need-returns
 returns c =
     let k = c .before .before .before .before .before .before .before .before in
     let a = k .before .before .before .args in
-    tick-cleans (a .self) (a .near) (k .tick .result) (told k) (view (c .cleaned .result)) (c .before .before .before .before .before .before .if1 .taken) (c .cleaned .ensures)
+    let due = c .before .before .before .before .before .before .if1 .taken in
+    ticked dbstream (view (a .self)) (a .near) (tickTold (k .tick .result)) (told k) true (view (c .cleaned .result)) due (c .cleaned .ensures)
 
 returns-2 : tie.Need-returns-2
 returns-2 c =
     let k = c .before .before .before .before .before .before .before in
     let a = k .before .before .before .args in
-    tick-still (a .self) (a .near) (k .tick .result) (told k) (c .before .before .before .before .before .if1 .left)
+    let still = c .before .before .before .before .before .if1 .left in
+    ticked dbstream (view (a .self)) (a .near) (tickTold (k .tick .result)) (told k) false _ still refl
 
 pub tick-spec : {M : Type 1} → statement M
 tick-spec = tie.close (tie.spec at-requires tick-requires cleaned-requires returns returns-2)

@@ -1,12 +1,13 @@
+-- `DbStream::try_insert` meets its contract. Assumes nothing.
 use mathlib.Core.Path.{sym, _∙_}
 use native.Mathlib.Omega.{arith}
+use borrow.Author.Needs.{needs}
 use lib.ListN.{take, length-map}
-use Rattle.model.specs.Laws.Insert.{point-is, given-back}
-use Rattle.model.specs.Laws.Numbers.{insertion-said}
+use Rattle.model.specs.Laws.Insert.{point-is}
+use Rattle.model.specs.Laws.Numbers.{inserted-as}
 use Rattle.model.specs.Dbstream.{dbstream}
 use Rattle.dbstream.specs.View.{view}
 use Rattle.dbstream.proofs.Inserts.{Met, few, inserted}
-use borrow.Author.Needs.{needs}
 use Rattle.dbstream.proofs.stream.DbStream.try_insert.Statement.{statement}
 use Rattle.dbstream.proofs.stream.DbStream.try_insert.Tie as tie
 
@@ -19,19 +20,22 @@ padded-requires c κs = search needs
 scan-for-requires : tie.Need-scan-for-requires
 scan-for-requires c κs = search needs
 
--- what is known once the micro-clusters are scanned
+-- the call; and what is known once the micro-clusters are scanned
+abbrev came : tie.After-scan-for → tie.Start
+came c = c .before .before .before .before .before
+
 met :
     (c : tie.After-scan-for) →
-    let e = c .before .before .before .before .before in
     let d = c .before .before .before .cut .result in
-    Met (e .args .self) (e .args .x .now) (take d (c .before .before .padded .result)) d (c .scan-for .result)
+    Met (came c .args .self) (came c .args .x .now) (take d (c .before .before .padded .result)) d (c .scan-for .result)
 met c =
-    let e = c .before .before .before .before .before in
+    let e = came c in
     let s = e .args .self in
     let d = c .before .before .before .cut in
+    let p = c .before .before .padded in
     record {
       coordinates = d .ensures;
-      point = λ ex. point-is (e .args .x .now) (c .before .before .padded .result) (d .result) ex (omega (arith, d .ensures)) (c .before .before .padded .ensures);
+      point = λ ex. point-is (e .args .x .now) (p .result) (d .result) ex (omega (arith, d .ensures)) (p .ensures);
       places = sym (length-map (s .micros) _) ∙ e .good .0 .1 .1 .1 .1 .1 .0 .1 .0 .1;
       scanned = c .scan-for .ensures;
     }
@@ -51,13 +55,12 @@ taken-requires c κs = few (met (c .before .before .before))
 returns : tie.Need-returns
 returns c =
     let e = c .before .before .before .before in
-    let m = met e in
+    let a = came e .args in
     let place = c .before .before .before .has-place in
-    let a = c .before .before .insertion-asked in
+    let answer = c .before .before .insertion-asked in
     let done = c .before .is-done in
-    let g = e .before .before .before .before .before .args in
-    let told = inserted m (a .result) (place .result) (place .ensures) (a .ensures) (done .result) _ (done .ensures) (c .taken .ensures .0) in
-    (told, (given-back (a .result) (done .result) _ _ (done .ensures) (c .taken .ensures .1), insertion-said dbstream (view (g .self)) (g .x .now) _ told))
+    let told = inserted (met e) (answer .result) (place .result) (place .ensures) (answer .ensures) (done .result) _ (done .ensures) (c .taken .ensures .0) in
+    inserted-as dbstream (view (a .self)) (a .x .now) (answer .result) _ (done .result) _ _ told (done .ensures) (c .taken .ensures .1)
 
 pub try-insert-spec : {M : Type 1} → statement M
 try-insert-spec =
