@@ -75,7 +75,7 @@ impl DbStream {
         ensures { λ r. ⌜ insertedTold r ≡ insertOf (view self) (now (x .entry)) ⌝ }
         ensures kept { λ r. ⌜ (insertionNumber (r .answer) ≢ 0 → r .stream ≡ self) ⌝ }
         ensures said { λ r. ⌜ insertionSaid (r .answer)
-            ≡ insertionNo (view self .params .settings .dim) (length (now (x .entry))) (self .t) (hasPlace (view self) (now (x .entry))) ⌝ }
+            ≡ insertionNo (view self .params .settings .dim) (length (now (x .entry))) (view self .t) (hasPlace (view self) (now (x .entry))) ⌝ }
     {
         let dim = lists::cut(self.params.settings.dim, MAX_DIM);
         let point = model::padded(x);

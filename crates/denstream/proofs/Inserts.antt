@@ -1,4 +1,4 @@
--- The questions of an insert, and its steps, put together to the definition's. Assumes nothing.
+-- An insert into the arrays, seen through the view. Assumes nothing.
 use Prim.Native.Nat.{ℕ}
 use mathlib.Core.Path.{_≡_, sym, _∙_, subst}
 use mathlib.Core.Bool.{Bool, true, cond}
@@ -9,37 +9,41 @@ use Rattle.model.specs.declared.answers.Insertion.{Insertion}
 use Rattle.model.specs.Answers.{isDone}
 use Rattle.model.specs.Questions.{insertionAsked}
 use Rattle.model.specs.Laws.Insert.{taken-asks}
-use Rattle.model.specs.Stream.{taking}
 use Rattle.model.specs.Laws.Stream.{inserted-by}
 use Rattle.model.specs.DenState.{State}
 use Rattle.model.specs.Denstream.{denstream, tickOf, insertOf}
-use Rattle.den_pool.specs.Held.{microIn}
 use Rattle.den_placement.specs.declared.choice.Placement.{Placement}
-use Rattle.den_placement.specs.Placing.{takes, pooledAt, placementOf, placementTold}
+use Rattle.den_placement.specs.Placing.{takes, placementOf, placementTold}
 use Rattle.den_placement.specs.Laws.Placing.{Placing, placing-law}
+use Rattle.denstream.specs.declared.stream.DenStream.{DenStream}
+use Rattle.denstream.specs.View.{view, dimOf}
+use Rattle.denstream.specs.Inside.Placed.{heldBy, placedBy}
 
--- what is known once the point x is measured, of which y is what was placed: p is its placement, and a the answer
-pub record Met (s : State) (x y : List Float) (d : ℕ) (p : Placement) (a : Insertion) : Type 0 where
-  pub coordinates : d ≡ s .params .settings .dim
+-- what is known once x is measured, of which y is the first d places: p is the placement of y
+pub record Met (s : DenStream) (x y : List Float) (d : ℕ) (p : Placement) : Type 0 where
+  pub coordinates : d ≡ dimOf s
   pub point : length x ≡ d → y ≡ x
-  pub placement : placementTold (s .params .settings .dim) p ≡ placementOf (s .params) (s .t) (s .held) y
-  pub answer : a ≡ insertionAsked d (length x) (s .t) (takes (p .target))
+  pub placement : placementTold (dimOf s) p ≡ placementOf (view s .params) (s .t) (view s .held) y
 
-module _ {s : State} {x y : List Float} {d : ℕ} {p : Placement} {a : Insertion} (m : Met s x y d p a) where
-  pub placing : Placing s y (placementTold (s .params .settings .dim) p)
-  placing = subst (Placing s y) (sym (m .placement)) (placing-law s y)
+module _ {s : DenStream} {x y : List Float} {d : ℕ} {p : Placement} (m : Met s x y d p) where
+  pub placing : Placing (view s) y (placementTold (dimOf s) p)
+  placing = subst (Placing (view s) y) (sym (m .placement)) (placing-law (view s) y)
 
-  met : length x ≡ d → Placing s x (placementTold (s .params .settings .dim) p)
-  met h = subst (λ (z : List Float). Placing s z (placementTold (s .params .settings .dim) p)) (m .point h) placing
+  met : length x ≡ d → Placing (view s) x (placementTold (dimOf s) p)
+  met h = subst (λ (z : List Float). Placing (view s) z (placementTold (dimOf s) p)) (m .point h) placing
 
+-- ---- the whole insert
+module _
+    {s : DenStream} {x y : List Float} {d : ℕ} {p : Placement} (m : Met s x y d p)
+    (a : Insertion) (place : Bool) (ep : place ≡ takes (p .target)) (e : a ≡ insertionAsked d (length x) (s .t) place) where
+  -- a point that is taken has a place
   pub room : (b : Bool) → b ≡ isDone a → b ≡ true → takes (p .target) ≡ true
-  room b h q = taken-asks d (length x) (s .t) (takes (p .target)) a (m .answer) (sym h ∙ q) .1
+  room b h q = sym ep ∙ taken-asks d (length x) (s .t) place a e (sym h ∙ q) .1
 
   -- v is what becomes of the stream, by whether the answer is no refusal
   pub inserted :
-      (b : Bool) (v : State) → b ≡ isDone a →
-      v ≡ cond b (tickOf (taking s (pooledAt (p .target) (p .place) (microIn (s .params .settings .dim) (p .micro)) (s .held))) (p .near)) s →
-      record { answer = a; stream = v } ≡ insertOf s x
+      (b : Bool) (v : State) → b ≡ isDone a → v ≡ cond b (tickOf (placedBy s p) (p .near)) (view s) →
+      record { answer = a; stream = v } ≡ insertOf (view s) x
   inserted b v eb ev =
-      inserted-by denstream s x d (takes (p .target)) (pooledAt (p .target) (p .place) (microIn (s .params .settings .dim) (p .micro)) (s .held)) (p .near) a b v
-      (m .coordinates) (λ h. met h .fits) (λ h q. met h .placed q) (λ h. met h .near) (m .answer) eb ev
+      inserted-by denstream (view s) x d place (heldBy s p) (p .near) a b v (m .coordinates) (λ h. ep ∙ met m h .fits)
+      (λ h q. met m h .placed (sym ep ∙ q)) (λ h. met m h .near) e eb ev

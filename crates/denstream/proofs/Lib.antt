@@ -1,5 +1,5 @@
-pub mod Opens
-pub mod Ticks
+-- What only the proofs here use.
+pub mod Openings
 pub mod Places
 pub mod Inserts
-pub mod Clusters
+pub mod Labels

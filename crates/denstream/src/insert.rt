@@ -10,12 +10,12 @@ ghost use mathlib.Core.Bool.{true, false, cond};
 ghost use lib.ListN.{length};
 ghost use Rattle.model.specs.Answers.{insertionNumber};
 ghost use Rattle.model.specs.Numbers.{insertionNo, insertionSaid};
-ghost use Rattle.model.specs.Stream.{taking};
 ghost use Rattle.model.specs.Denstream.{tickOf, hasPlace, insertOf};
-ghost use Rattle.den_pool.specs.Held.{microIn};
-ghost use Rattle.den_placement.specs.Placing.{takes, pooledAt, Ready};
+ghost use Rattle.den_placement.specs.Placing.{takes, Ready};
 ghost use Rattle.denstream.specs.View.{view, insertedTold};
+ghost use Rattle.denstream.specs.Inside.Placed.{placedBy};
 
+// The answer, and the stream given back.
 pub struct Inserted {
     pub answer: Insertion,
     pub stream: DenStream,
@@ -27,9 +27,7 @@ impl DenStream {
     fn taken(mut self, done: bool, p: Placement) -> Self
         requires { ⌜ Ready (p .target) (p .place) (view self .held) ⌝ }
         requires placed { ⌜ (done ≡ true → takes (p .target) ≡ true) ⌝ }
-        ensures { λ r. ⌜ view r ≡ cond done
-            (tickOf (taking (view self) (pooledAt (p .target) (p .place) (microIn (view self .params .settings .dim) (p .micro)) (view self .held))) (p .near))
-            (view self) ⌝ }
+        ensures { λ r. ⌜ view r ≡ cond done (tickOf (placedBy self p) (p .near)) (view self) ⌝ }
         ensures kept { λ r. ⌜ (done ≡ false → r ≡ self) ⌝ }
     {
         if !done {
@@ -69,22 +67,30 @@ impl DenStream {
         self.tick(near)
     }
 
+    // The questions in order; a point that none refuses is taken, and a refused stream is the one that came.
     pub fn try_insert(self, x: &[f64]) -> Inserted
         ensures { λ r. ⌜ insertedTold r ≡ insertOf (view self) (now (x .entry)) ⌝ }
         ensures kept { λ r. ⌜ (insertionNumber (r .answer) ≢ 0 → r .stream ≡ self) ⌝ }
         ensures said { λ r. ⌜ insertionSaid (r .answer)
             ≡ insertionNo (view self .params .settings .dim) (length (now (x .entry))) (view self .t) (hasPlace (view self) (now (x .entry))) ⌝ }
     {
-        let params = self.params;
-        let dim = lists::cut(params.settings.dim, MAX_DIM);
+        let dim = lists::cut(self.params.settings.dim, MAX_DIM);
         let point = model::padded(x);
         let potential = self.potential;
-        let np = self.potential_count;
         let outliers = self.outliers;
-        let no = self.outlier_count;
-        let p = den_placement::place(potential, np, outliers, no, params, self.t, point);
+        let params = self.params;
+        let p = den_placement::place(
+            potential,
+            self.potential_count,
+            outliers,
+            self.outlier_count,
+            params,
+            self.t,
+            point,
+        );
         let target = p.target;
-        let answer = model::insertion_asked(dim, x.len(), self.t, target.takes());
+        let place = target.takes();
+        let answer = model::insertion_asked(dim, x.len(), self.t, place);
         let stream = self.taken(answer.is_done(), p);
         Inserted { answer, stream }
     }

@@ -1,11 +1,11 @@
 // A stream is opened.
 use crate::stream::DenStream;
 use drift::DriftMonitor;
-use model::Body;
-use model::DenMicro;
+use feature::Spherical;
 use model::DenParams;
 use model::DenSettings;
 use model::MICROS;
+use model::Micro;
 use model::Opening;
 ghost use Prim.Native.Nat.{min};
 ghost use mathlib.Core.Path.{_≡_};
@@ -17,13 +17,13 @@ ghost use Rattle.model.specs.Denstream as doc;
 ghost use Rattle.den_pool.specs.Held.{withDim};
 ghost use Rattle.denstream.specs.View.{view, openedTold};
 
-// The answer; beside a refusal stands a stream of zeros.
+// The answer, and the stream; beside a refusal stands one whose settings are all 0.
 pub struct Opened {
     pub answer: Opening,
     pub stream: DenStream,
 }
 
-// The questions in order: the first no decides.
+// What both streams ask, then one question more: is beta * mu above 1?
 fn asked(settings: DenSettings) -> Opening
     ensures { λ r. ⌜ r ≡ doc.asked settings ⌝ }
 {
@@ -44,36 +44,13 @@ fn asked(settings: DenSettings) -> Opening
 }
 
 impl DenStream {
-    pub fn new(settings: DenSettings) -> Opened
-        ensures { λ r. ⌜ openedTold r ≡ openOf settings ⌝ }
-        ensures said { λ r. ⌜ openingNumber (r .answer) ≡ denOpeningNo settings ⌝ }
-    {
-        let answer = asked(settings);
-        if answer.is_open() {
-            return Opened {
-                answer,
-                stream: DenStream::fresh(settings),
-            };
-        }
-        let zeros = DenSettings {
-            dim: 0,
-            eps: 0.0,
-            lambda: 0.0,
-            beta: 0.0,
-            mu: 0.0,
-        };
-        Opened {
-            answer,
-            stream: DenStream::fresh(zeros),
-        }
-    }
-
-    // No micro-cluster, no label, an empty window, clock 0.
+    // No micro-cluster or label, an empty window, no alarm, clock 0.
     fn fresh(settings: DenSettings) -> Self
-        ensures { λ r. ⌜ view r ≡ doc.fresh (withDim settings (min (settings .dim) maxDim)) ⌝ }
+        ensures { λ s. ⌜ view s ≡ doc.fresh (withDim settings (min (settings .dim) maxDim)) ⌝ }
     {
-        let none = DenMicro {
-            body: Body::new(),
+        let micro = Micro {
+            cf: Spherical::new(),
+            last: 0.0,
             t0: 0.0,
         };
         let bm = settings.beta * settings.mu;
@@ -86,13 +63,34 @@ impl DenStream {
         DenStream {
             params,
             t: 0.0,
-            potential: [none; MICROS],
+            potential: [micro; MICROS],
             potential_count: 0,
-            outliers: [none; MICROS],
+            outliers: [micro; MICROS],
             outlier_count: 0,
             labels: [-1; MICROS],
             label_count: 0,
             drift: DriftMonitor::new(settings.eps),
         }
+    }
+
+    // The questions in order: the first no decides.
+    pub fn new(settings: DenSettings) -> Opened
+        ensures { λ o. ⌜ openedTold o ≡ openOf settings ⌝ }
+        ensures said { λ o. ⌜ openingNumber (o .answer) ≡ denOpeningNo settings ⌝ }
+    {
+        let answer = asked(settings);
+        if answer.is_open() {
+            let stream = DenStream::fresh(settings);
+            return Opened { answer, stream };
+        }
+        let zeros = DenSettings {
+            dim: 0,
+            eps: 0.0,
+            lambda: 0.0,
+            beta: 0.0,
+            mu: 0.0,
+        };
+        let stream = DenStream::fresh(zeros);
+        Opened { answer, stream }
     }
 }

@@ -1,4 +1,4 @@
-// What a DenStream keeps, and what it says of itself.
+// What a DenStream keeps, and what it says of itself; the crate den_readout has the rest.
 use drift::DriftMonitor;
 use drift::DriftReport;
 use feature::MAX_DIM;
@@ -10,7 +10,7 @@ ghost use lib.ListN.{length};
 ghost use Rattle.drift.specs.Monitor.{reportOf};
 ghost use Rattle.denstream.specs.View.{view};
 
-// Each pool is the first of its array; params has at most 15 coordinates.
+// The arrays hold as many elements as their counts say, the pools never more than 64 together.
 pub struct DenStream {
     pub params: DenParams,
     pub t: f64,
@@ -24,18 +24,11 @@ pub struct DenStream {
 }
 
 impl DenStream {
-    pub fn drift(self) -> DriftReport
-        ensures { λ r. ⌜ r ≡ reportOf (view self .drift) ⌝ }
-    {
-        let monitor = self.drift;
-        monitor.report()
-    }
-
+    // The coordinates of a point.
     pub fn dim(self) -> usize
         ensures { λ r. ⌜ r ≡ view self .params .settings .dim ⌝ }
     {
-        let params = self.params;
-        lists::cut(params.settings.dim, MAX_DIM)
+        lists::cut(self.params.settings.dim, MAX_DIM)
     }
 
     // How many potential micro-clusters are held.
@@ -43,5 +36,13 @@ impl DenStream {
         ensures { λ r. ⌜ r ≡ length (view self .held .potential) ⌝ }
     {
         den_placement::potential_held(self.potential_count)
+    }
+
+    // The drift monitor's report.
+    pub fn drift(self) -> DriftReport
+        ensures { λ r. ⌜ r ≡ reportOf (view self .drift) ⌝ }
+    {
+        let monitor = self.drift;
+        monitor.report()
     }
 }

@@ -12,9 +12,8 @@ impl DenStream {
     pub fn tick(self, near: Nearest) -> Self
         ensures { λ r. ⌜ view r ≡ tickOf (view self) near ⌝ }
     {
-        let params = self.params;
         let drift = self.drift;
-        let clock = Clock::at(self.t, params.tp, drift);
+        let clock = Clock::at(self.t, self.params.tp, drift);
         let ticked = clock.tick(near);
         let t = ticked.t;
         let seen = ticked.drift;

@@ -1,6 +1,5 @@
 -- `DenStream::fresh` meets its contract. Assumes nothing.
 use borrow.Author.Needs.{needs}
-use Rattle.denstream.specs.View.{view}
 use Rattle.denstream.proofs.stream.DenStream.fresh.Statement.{statement}
 use Rattle.denstream.proofs.stream.DenStream.fresh.Tie as tie
 

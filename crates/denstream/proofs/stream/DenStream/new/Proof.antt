@@ -1,8 +1,9 @@
 -- `DenStream::new` meets its contract. Assumes nothing.
 use mathlib.Core.Path.{sym, _∙_}
+use mathlib.Core.Bool.{true, false}
 use borrow.Author.Needs.{needs}
 use Rattle.denstream.specs.View.{view}
-use Rattle.denstream.proofs.Opens.{opened-told, refused-told, both}
+use Rattle.denstream.proofs.Openings.{opened}
 use Rattle.denstream.proofs.stream.DenStream.new.Statement.{statement}
 use Rattle.denstream.proofs.stream.DenStream.new.Tie as tie
 
@@ -16,13 +17,21 @@ fresh-requires : tie.Need-fresh-requires
 fresh-requires c κs = search needs
 
 returns : tie.Need-returns
-returns c = both _ _ (opened-told _ _ (view (c .fresh .result)) (c .before .before .before .asked .ensures) (sym (c .before .before .is-open .ensures) ∙ c .before .if1 .taken) (c .fresh .ensures))
+returns c =
+    let p = c .before .before .before .before .args .settings in
+    let answer = c .before .before .before .asked in
+    let opens = sym (c .before .before .«is-open» .ensures) ∙ c .before .if1 .taken in
+    opened p (answer .result) true (view (c .fresh .result)) (answer .ensures) opens (c .fresh .ensures)
 
 fresh-requires-2 : tie.Need-fresh-requires-2
 fresh-requires-2 c κs = search needs
 
 returns-2 : tie.Need-returns-2
-returns-2 c = both _ _ (refused-told _ _ (view (c .fresh2 .result)) (c .before .before .before .asked .ensures) (sym (c .before .before .is-open .ensures) ∙ c .before .if1 .left) (c .fresh2 .ensures))
+returns-2 c =
+    let p = c .before .before .before .before .args .settings in
+    let answer = c .before .before .before .asked in
+    let stays = sym (c .before .before .«is-open» .ensures) ∙ c .before .if1 .left in
+    opened p (answer .result) false (view (c .fresh2 .result)) (answer .ensures) stays (c .fresh2 .ensures)
 
 pub new-spec : {M : Type 1} → statement M
 new-spec =

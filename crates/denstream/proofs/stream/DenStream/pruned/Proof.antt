@@ -1,11 +1,11 @@
 -- `DenStream::pruned` meets its contract. Assumes nothing.
-use Prim.Native.Nat.{min}
 use mathlib.Core.Path.{_≡_, sym, ap, _∙_}
 use lib.ListN.{length, length-map}
 use borrow.Author.Needs.{needs}
+use Rattle.model.specs.Limits.{microsMost}
 use Rattle.model.specs.Stream.{holding}
 use Rattle.den_placement.specs.Laws.Pools.{prunes}
-use Rattle.denstream.specs.View.{view}
+use Rattle.denstream.specs.View.{view, dimOf}
 use Rattle.denstream.proofs.stream.DenStream.pruned.Statement.{statement}
 use Rattle.denstream.proofs.stream.DenStream.pruned.Tie as tie
 
@@ -15,25 +15,26 @@ potential-held-requires c κs = search needs
 outliers-held-requires : tie.Need-outliers-held-requires
 outliers-held-requires c κs = search needs
 
-pruned-requires : tie.Need-pruned-requires
-pruned-requires c κs = search needs
+prune-potential-requires : tie.Need-prune-potential-requires
+prune-potential-requires c κs = search needs
 
-pruned-requires-2 : tie.Need-pruned-requires-2
-pruned-requires-2 c κs = search needs
+prune-outliers-requires : tie.Need-prune-outliers-requires
+prune-outliers-requires c κs = search needs
 
 returns : tie.Need-returns
 returns c =
     let e = c .before .before .before .before .before .before .before .before .before in
     let s = e .args .self in
-    let a = c .before .before .before .pruned in
-    let b = c .before .before .pruned2 in
-    let lp : length (s .potential) ≡ 64 = sym (length-map (s .potential) _) ∙ e .good .0 .1 .1 .1 .1 .0 .1 .0 .1 in
-    let lo : length (s .outliers) ≡ 64 = sym (length-map (s .outliers) _) ∙ e .good .0 .1 .1 .1 .1 .1 .1 .0 .1 .0 .1 in
+    let np = c .before .before .before .before .before .before .before .potential-held in
+    let no = c .before .before .before .before .before .before .outliers-held in
+    let a = c .before .before .before .prune-potential in
+    let b = c .before .before .prune-outliers in
+    let potential-room : length (s .potential) ≡ microsMost = sym (length-map (s .potential) _) ∙ e .good .0 .1 .1 .1 .1 .0 .1 .0 .1 in
+    let outliers-room : length (s .outliers) ≡ microsMost = sym (length-map (s .outliers) _) ∙ e .good .0 .1 .1 .1 .1 .1 .1 .0 .1 .0 .1 in
     ap (holding (view s))
-    (prunes (min (s .params .settings .dim) 15) (s .potential) (s .«potential_count») (s .outliers) (s .«outlier_count») lp lo _
-    (c .before .before .before .before .before .before .before .potential-held .ensures) _
-    (c .before .before .before .before .before .before .outliers-held .ensures) (s .params) (s .t) (a .result) (b .result) (a .ensures .0) (a .ensures .1)
-    (b .ensures .0) (b .ensures .1))
+    (prunes (dimOf s) (s .potential) (s .«potential_count») (s .outliers) (s .«outlier_count») potential-room outliers-room
+    (np .result) (np .ensures) (no .result) (no .ensures) (s .params) (s .t)
+    (a .result) (b .result) (a .ensures .0) (a .ensures .1) (b .ensures .0) (b .ensures .1))
 
 pub pruned-spec : {M : Type 1} → statement M
 pruned-spec =
@@ -41,6 +42,6 @@ pruned-spec =
     (tie.spec
     potential-held-requires
     outliers-held-requires
-    pruned-requires
-    pruned-requires-2
+    prune-potential-requires
+    prune-outliers-requires
     returns)

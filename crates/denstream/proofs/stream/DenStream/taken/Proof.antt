@@ -1,27 +1,33 @@
 -- `DenStream::taken` meets its contract. Assumes nothing.
-use mathlib.Core.Path.{_≡_, refl, sym, ap, _∙_}
+use Prim.Native.Nat.{_+_, _<_}
+use mathlib.Core.Path.{_≡_, sym, ap, _∙_}
 use mathlib.Core.Logic.{⊎-elim}
 use mathlib.Core.Bool.{true≢false}
 use native.Mathlib.Omega.{arith}
 use borrow.Author.Tests.{not-true, not-false}
 use borrow.Author.Needs.{needs}
 use lib.ListN.{length-map}
+use Rattle.model.specs.Limits.{microsMost}
 use Rattle.model.specs.DenState.{State}
 use Rattle.model.specs.Denstream.{tickOf}
 use Rattle.model.specs.Laws.Insert.{when-done, when-refused}
 use Rattle.den_placement.specs.Placing.{takes}
 use Rattle.denstream.specs.declared.stream.DenStream.{DenStream}
 use Rattle.denstream.specs.View.{view}
-use Rattle.denstream.proofs.Ticks.{cleared}
-use Rattle.denstream.proofs.Places.{Counted, pooledIn, withPools, potential-low, outlier-low, promotion-low, newborn-low, to-potential, to-outlier}
-use Rattle.denstream.proofs.Places.{to-promotion, to-newborn}
+use Rattle.denstream.specs.Inside.Placed.{placedBy}
+use Rattle.denstream.proofs.Places.{Counted, cleared, potential-low, outlier-low, promotion-low, newborn-low}
+use Rattle.denstream.proofs.Places.{to-potential, to-outlier, to-promotion, to-newborn}
 use Rattle.denstream.proofs.stream.DenStream.taken.Statement.{statement}
 use Rattle.denstream.proofs.stream.DenStream.taken.Tie as tie
 
+-- ---- the call: what becomes of a stream that takes the point, and what its pools hold
+abbrev ticked : tie.Start → State
+ticked c = tickOf (placedBy (c .args .t1) (c .args .p)) (c .args .p .near)
+
 returns : tie.Need-returns
 returns c =
-    let a = c .before .args in
-    (when-refused (a .done) (tickOf (withPools (a .t1) (pooledIn (a .t1) (a .p))) (a .p .near)) (view (a .t1)) (not-true _ (c .if1 .taken)), λ q. refl)
+    let e = c .before in
+    when-refused view (e .args .done) (ticked e) (e .args .t1) (not-true _ (c .if1 .taken))
 
 potential-held-requires : tie.Need-potential-held-requires
 potential-held-requires c κs = search needs
@@ -29,9 +35,12 @@ potential-held-requires c κs = search needs
 outliers-held-requires : tie.Need-outliers-held-requires
 outliers-held-requires c κs = search needs
 
-counted : (c : tie.After-outliers-held) → Counted (c .before .before .before .args .t1) (c .before .before .before .args .p) (c .before .potential-held .result) (c .outliers-held .result)
+abbrev came : tie.After-outliers-held → tie.Start
+came c = c .before .before .before
+
+counted : (c : tie.After-outliers-held) → Counted (came c .args .t1) (came c .args .p) (c .before .potential-held .result) (c .outliers-held .result)
 counted c =
-    let e = c .before .before .before in
+    let e = came c in
     record {
       potential-size = sym (length-map (e .args .t1 .potential) _) ∙ e .good .0 .1 .1 .1 .1 .0 .1 .0 .1;
       outliers-size = sym (length-map (e .args .t1 .outliers) _) ∙ e .good .0 .1 .1 .1 .1 .1 .1 .0 .1 .0 .1;
@@ -40,14 +49,30 @@ counted c =
       ready = e .pre .0;
     }
 
+-- ---- each way writes at a place that is there
+potential-place : (c : tie.After-enum-told) → came (c .before .before .before) .args .p .place < microsMost
+potential-place c = potential-low (counted (c .before .before .before)) (c .enum-told .given .1)
+
+promotion-place : (c : tie.After-enum-told2) → c .before .before .before .before .potential-held .result < microsMost
+promotion-place c = promotion-low (counted (c .before .before .before)) (c .enum-told2 .given .1)
+
+outlier-place : (c : tie.After-enum-told3) → came (c .before .before .before) .args .p .place < microsMost
+outlier-place c = outlier-low (counted (c .before .before .before)) (c .enum-told3 .given .1)
+
+newborn-place :
+    (c : tie.After-enum-told4) →
+    let k = c .before .before .before in
+    k .before .potential-held .result + k .outliers-held .result < microsMost
+newborn-place c = newborn-low (counted (c .before .before .before)) (c .enum-told4 .given .1)
+
 enum-told : tie.Need-enum-told
 enum-told c = search needs
 
 mul-m : tie.Need-mul-m
-mul-m c = omega (arith, potential-low (counted (c .before .before .before)) (c .enum-told .given .1))
+mul-m c = omega (arith, potential-place c)
 
 element-set-from-m : tie.Need-element-set-from-m
-element-set-from-m c = omega (arith, potential-low (counted (c .before .before .before)) (c .enum-told .given .1))
+element-set-from-m c = omega (arith, potential-place c)
 
 enum-told-2 : tie.Need-enum-told-2
 enum-told-2 c = search needs
@@ -56,34 +81,34 @@ without-requires : tie.Need-without-requires
 without-requires c κs = search needs
 
 mul-m-2 : tie.Need-mul-m-2
-mul-m-2 c = omega (arith, promotion-low (counted (c .before .before .before .before .before .before)) (c .before .before .before .enum-told2 .given .1))
+mul-m-2 c = omega (arith, promotion-place (c .before .before .before))
 
 element-set-from-m-2 : tie.Need-element-set-from-m-2
-element-set-from-m-2 c = omega (arith, promotion-low (counted (c .before .before .before .before .before .before)) (c .before .before .before .enum-told2 .given .1))
+element-set-from-m-2 c = omega (arith, promotion-place (c .before .before .before))
 
 add-self : tie.Need-add-self
-add-self c = omega (arith, promotion-low (counted (c .before .before .before .before .before .before)) (c .before .before .before .enum-told2 .given .1))
+add-self c = omega (arith, promotion-place (c .before .before .before))
 
 enum-told-3 : tie.Need-enum-told-3
 enum-told-3 c = search needs
 
 mul-m-3 : tie.Need-mul-m-3
-mul-m-3 c = omega (arith, outlier-low (counted (c .before .before .before)) (c .enum-told3 .given .1))
+mul-m-3 c = omega (arith, outlier-place c)
 
 element-set-from-m-3 : tie.Need-element-set-from-m-3
-element-set-from-m-3 c = omega (arith, outlier-low (counted (c .before .before .before)) (c .enum-told3 .given .1))
+element-set-from-m-3 c = omega (arith, outlier-place c)
 
 enum-told-4 : tie.Need-enum-told-4
 enum-told-4 c = search needs
 
 mul-m-4 : tie.Need-mul-m-4
-mul-m-4 c = omega (arith, newborn-low (counted (c .before .before .before)) (c .enum-told4 .given .1))
+mul-m-4 c = omega (arith, newborn-place c)
 
 element-set-from-m-4 : tie.Need-element-set-from-m-4
-element-set-from-m-4 c = omega (arith, newborn-low (counted (c .before .before .before)) (c .enum-told4 .given .1))
+element-set-from-m-4 c = omega (arith, newborn-place c)
 
 add-self-2 : tie.Need-add-self-2
-add-self-2 c = omega (arith, newborn-low (counted (c .before .before .before)) (c .enum-told4 .given .1))
+add-self-2 c = omega (arith, newborn-place c)
 
 enum-told-5 : tie.Need-enum-told-5
 enum-told-5 c = search needs
@@ -91,14 +116,15 @@ enum-told-5 c = search needs
 -- no point is taken that has no place
 returns-2 : tie.Need-returns-2
 returns-2 c =
-    let done = not-false _ (c .before .before .before .before .before .if1 .left) in
-    absurd (true≢false (sym (c .before .before .before .before .before .before .pre .1 done) ∙ ap takes (c .enum-told5 .given .1)))
+    let k = c .before .before .before in
+    let done = not-false _ (k .before .before .if1 .left) in
+    absurd (true≢false (sym (came k .pre .1 done) ∙ ap takes (c .enum-told5 .given .1)))
 
--- where the ways meet, the point is at its target
+-- ---- where the ways meet, the point is at its target
 pooled :
-    (c : tie.At-match-came) → view (cleared (c .match .self))
-    ≡ withPools (c .before .before .before .before .before .args .t1)
-    (pooledIn (c .before .before .before .before .before .args .t1) (c .before .before .before .before .before .args .p))
+    (c : tie.At-match-came) →
+    let a = came (c .before .before) .args in
+    view (cleared (c .match .self)) ≡ placedBy (a .t1) (a .p)
 pooled c =
     let k = counted (c .before .before) in
     ⊎-elim (λ w. ap (λ (v : DenStream). view (cleared v)) (w .2) ∙ to-potential k (w .1 .given .1))
@@ -112,12 +138,11 @@ tick-requires c κs = search needs
 
 returns-3 : tie.Need-returns-3
 returns-3 c =
-    let a = c .before .before .before .before .before .before .args in
-    let s = withPools (a .t1) (pooledIn (a .t1) (a .p)) in
-    let done = not-false (a .done) (c .before .before .before .before .before .if1 .left) in (
-      c .tick .ensures ∙ ap (λ (v : State). tickOf v (a .p .near)) (pooled (c .before)) ∙ when-done (a .done) (tickOf s (a .p .near)) (view (a .t1)) done,
-      λ q. absurd (true≢false (sym done ∙ q)),
-    )
+    let k = c .before .before .before in
+    let e = came k in
+    let done = not-false _ (k .before .before .if1 .left) in
+    let told = c .tick .ensures ∙ ap (λ (v : State). tickOf v (e .args .p .near)) (pooled (c .before)) in
+    when-done view (e .args .done) (ticked e) (e .args .t1) (c .tick .result) done told
 
 pub taken-spec : {M : Type 1} → statement M
 taken-spec =

@@ -1,0 +1,26 @@
+-- The labels of the arrays, seen through the view. Assumes nothing.
+use Prim.Native.Nat.{ℕ}
+use mathlib.Core.Path.{_≡_, ap, _∙_}
+use mathlib.Core.List.{List}
+use lib.IntN.{ℤ}
+use lib.ListN.{take}
+use Rattle.model.specs.Stream.{labelled}
+use Rattle.model.specs.DenCluster.{labelsOf}
+use Rattle.model.specs.Denstream.{clusterOf}
+use Rattle.den_pool.specs.Held.{seen}
+use Rattle.den_placement.specs.Pools.{potentialHeld}
+use Rattle.den_grouping.specs.Group.{labelsIn}
+use Rattle.denstream.specs.declared.stream.DenStream.{DenStream}
+use Rattle.denstream.specs.View.{view, dimOf}
+
+-- n potential ones are held
+module _ (s : DenStream) (n : ℕ) (en : n ≡ potentialHeld (s .«potential_count»)) where
+  abbrev labelledBy : ℕ → List ℤ
+  labelledBy k = labelsIn (s .params) (s .t) (seen (dimOf s) k (s .potential))
+
+  labels-are : labelledBy n ≡ labelsOf (view s)
+  unfolding labelsIn labelsOf
+  labels-are = ap labelledBy en
+
+  pub clustered : (labels : List ℤ) → take n labels ≡ labelledBy n → labelled (view s) (take n labels) ≡ clusterOf (view s)
+  clustered labels e = ap (labelled (view s)) (e ∙ labels-are)
