@@ -127,8 +127,9 @@ module _ {s : DbStream} {x y : List Float} {d : ℕ} {f : Scan} (m : Met s x y d
 
   micros-absorbed : f .count ≢ 0 → microsBy s f y ≡ map (absorbed (s .params .settings .r) (s .params .settings .lambda) (s .t) x) (view s .held .micros)
   micros-absorbed h =
+      let r2 : Float = s .params .settings .r ⊗ s .params .settings .r in
       let absorbing : List Float → List Float → List DbMicro =
-      λ z q. map (cutTo (dimOf s)) (absorbNear (s .params .settings .r ⊗ s .params .settings .r) (absorbs (s .params .settings .lambda) (s .t) z) q (take (s .count) (s .micros))) in
+      λ z q. map (cutTo (dimOf s)) (absorbNear r2 (absorbs (s .params .settings .lambda) (s .t) z) q (take (s .count) (s .micros))) in
       rw (ne-eqb (f .count) 0 h)
       (ap₂ absorbing (m .point ex) (ap (λ (q : Scan). q .distances) met)
       ∙ absorb-view (dimOf s) x (ex ∙ m .coordinates) (s .params .settings .r) (s .params .settings .lambda) (s .t) (take (s .count) (s .micros)))

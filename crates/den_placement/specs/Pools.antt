@@ -1,13 +1,10 @@
 -- The pools of a DenStream, kept in two arrays with a count each. Definitions only.
 use Prim.Native.Nat.{ℕ, _-_, min}
 use mathlib.Core.List.{List}
-use lib.IntN.{ℤ}
-use lib.Ieee.{Float}
-use Rattle.drift.specs.Monitor.{Monitor}
 use Rattle.model.specs.declared.micro.DenMicro.{DenMicro}
 use Rattle.model.specs.Limits.{microsMost}
-use Rattle.model.specs.DenState.{Params, Holdings, pooled, State}
-use Rattle.den_pool.specs.Held.{dimOf, settledOf, seen}
+use Rattle.model.specs.DenState.{Holdings, pooled}
+use Rattle.den_pool.specs.Held.{seen}
 
 -- how many are held: never more than 64 in both pools together
 abbrev pub potentialHeld : (potential : ℕ) → ℕ
@@ -16,19 +13,7 @@ potentialHeld potential = min potential microsMost
 abbrev pub outliersHeld : (potential outliers : ℕ) → ℕ
 outliersHeld potential outliers = min outliers (microsMost - potentialHeld potential)
 
--- what is held in these arrays; and the stream that keeps it
+-- what is held in these arrays
 abbrev pub poolsOf : (dim : ℕ) → (potential : List DenMicro) → (potentialCount : ℕ) → (outliers : List DenMicro) → (outlierCount : ℕ) → Holdings
 poolsOf dim potential potentialCount outliers outlierCount =
     pooled (seen dim (potentialHeld potentialCount) potential) (seen dim (outliersHeld potentialCount outlierCount) outliers)
-
-abbrev pub stateOf :
-    Params → (t : Float) → (potential : List DenMicro) → (potentialCount : ℕ) → (outliers : List DenMicro) → (outlierCount : ℕ) →
-    (labels : List ℤ) → Monitor → State
-stateOf p t potential potentialCount outliers outlierCount labels drift =
-    record {
-      params = settledOf p;
-      t = t;
-      held = poolsOf (dimOf p) potential potentialCount outliers outlierCount;
-      labels = labels;
-      drift = drift;
-    }
