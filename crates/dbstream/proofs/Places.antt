@@ -4,7 +4,6 @@ use mathlib.Core.Path.{_≡_, refl, ap, _∙_}
 use mathlib.Core.List.{List, map, foldl}
 use lib.Ieee.{Float}
 use lib.ListN.{take}
-use Rattle.drift.specs.declared.DriftMonitor.{DriftMonitor}
 use Rattle.model.specs.declared.micro.MicroId.{MicroId}
 use Rattle.model.specs.declared.micro.DbMicro.{DbMicro}
 use Rattle.model.specs.declared.link.Link.{Link}
@@ -19,11 +18,11 @@ use Rattle.dbstream.specs.View.{view, dimOf}
 use Rattle.dbstream.specs.Inside.Placed.{holds, microsBy, placedBy}
 
 -- s as the steps of an insert change it
-abbrev pub having : DbStream → MicroId → List DbMicro → (count : ℕ) → List Link → (links labels : ℕ) → (t : Float) → DriftMonitor → DbStream
-having s next ms count ls links labels t m =
+abbrev pub having : DbStream → MicroId → List DbMicro → (count : ℕ) → List Link → (links labels : ℕ) → DbStream
+having s next ms count ls links labels =
     record {
       params = s .params;
-      t = t;
+      t = s .t;
       «next_id» = next;
       micros = ms;
       count = count;
@@ -31,14 +30,14 @@ having s next ms count ls links labels t m =
       «link_count» = links;
       labels = s .labels;
       «label_count» = labels;
-      drift = m;
+      drift = s .drift;
     }
 
 abbrev pub withMicros : DbStream → MicroId → List DbMicro → (count : ℕ) → DbStream
-withMicros s next ms count = having s next ms count (s .links) (s .«link_count») (s .«label_count») (s .t) (s .drift)
+withMicros s next ms count = having s next ms count (s .links) (s .«link_count») (s .«label_count»)
 
 abbrev pub withLinks : DbStream → List Link → DbStream
-withLinks s ls = having s (s .«next_id») (s .micros) (s .count) ls (s .«link_count») (s .«label_count») (s .t) (s .drift)
+withLinks s ls = having s (s .«next_id») (s .micros) (s .count) ls (s .«link_count») (s .«label_count»)
 
 -- u is s but for its links
 pub record Linked (s u : DbStream) : Type 0 where
@@ -66,9 +65,9 @@ module _ (s : DbStream) (f : Scan) (x : List Float) (next : MicroId) (ms : List 
       take count ms
       ≡ placedAmong f (s .params .settings .r) (s .params .settings .lambda) (s .t) (s .«next_id») x (s .count) (take (s .count) (s .micros)) →
       next ≡ nextAfter f (s .count) (s .«next_id») → u ≡ withLinks (withMicros s next ms count) (u .links) → take n (u .links) ≡ links →
-      view (having u (u .«next_id») (u .micros) (u .count) (u .links) n 0 (u .t) (u .drift)) ≡ placedBy s f x
+      view (having u (u .«next_id») (u .micros) (u .count) (u .links) n 0) ≡ placedBy s f x
   placed-is placed numbered is gained =
-      ap (λ (v : DbStream). view (having v (v .«next_id») (v .micros) (v .count) (u .links) n 0 (v .t) (v .drift))) is
+      ap (λ (v : DbStream). view (having v (v .«next_id») (v .micros) (v .count) (u .links) n 0)) is
       ∙ ap (withHeld next (held (dimOf s) count ms)) gained
       ∙ ap (λ (l : List DbMicro). withHeld next (map (cutTo (dimOf s)) l) links) placed
       ∙ ap (λ (q : MicroId). withHeld q (microsBy s f x) links) numbered

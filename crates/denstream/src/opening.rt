@@ -12,7 +12,7 @@ ghost use mathlib.Core.Path.{_≡_};
 ghost use Rattle.feature.specs.Feature.{maxDim};
 ghost use Rattle.model.specs.Answers.{openingNumber};
 ghost use Rattle.model.specs.Numbers.{denOpeningNo};
-ghost use Rattle.model.specs.Denstream.{openOf};
+ghost use Rattle.model.specs.Denstream.{fresh, openOf};
 ghost use Rattle.model.specs.Denstream as doc;
 ghost use Rattle.den_pool.specs.Held.{withDim};
 ghost use Rattle.denstream.specs.View.{view, openedTold};
@@ -46,7 +46,7 @@ fn asked(settings: DenSettings) -> Opening
 impl DenStream {
     // No micro-cluster or label, an empty window, no alarm, clock 0.
     fn fresh(settings: DenSettings) -> Self
-        ensures { λ s. ⌜ view s ≡ doc.fresh (withDim settings (min (settings .dim) maxDim)) ⌝ }
+        ensures { λ s. ⌜ view s ≡ fresh (withDim settings (min (settings .dim) maxDim)) ⌝ }
     {
         let micro = Micro {
             cf: Spherical::new(),
