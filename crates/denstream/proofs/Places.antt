@@ -4,7 +4,7 @@ use mathlib.Core.Path.{_≡_, ap}
 use mathlib.Core.List.{List}
 use lib.ListN.{length, take, set}
 use Rattle.lists.specs.Retain.{without}
-use Rattle.model.specs.declared.micro.Micro.{Micro}
+use Rattle.model.specs.declared.micro.DenMicro.{DenMicro}
 use Rattle.model.specs.Limits.{microsMost}
 use Rattle.model.specs.Stream.{taking}
 use Rattle.den_pool.specs.declared.pool.Pool.{Pool}
@@ -27,7 +27,7 @@ pub record Counted (s : DenStream) (p : Placement) (np no : ℕ) : Type 0 where
   pub ready : Ready (p .target) (p .place) (view s .held)
 
 -- s over other pools and without labels; and over its own
-abbrev pub over : DenStream → (potential : List Micro) → ℕ → (outliers : List Micro) → ℕ → DenStream
+abbrev pub over : DenStream → (potential : List DenMicro) → ℕ → (outliers : List DenMicro) → ℕ → DenStream
 over s a n b k =
     record {
       params = s .params;

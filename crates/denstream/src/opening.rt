@@ -1,11 +1,11 @@
 // A stream is opened.
 use crate::stream::DenStream;
 use drift::DriftMonitor;
-use feature::Spherical;
+use model::Body;
+use model::DenMicro;
 use model::DenParams;
 use model::DenSettings;
 use model::MICROS;
-use model::Micro;
 use model::Opening;
 ghost use Prim.Native.Nat.{min};
 ghost use mathlib.Core.Path.{_≡_};
@@ -48,9 +48,8 @@ impl DenStream {
     fn fresh(settings: DenSettings) -> Self
         ensures { λ s. ⌜ view s ≡ fresh (withDim settings (min (settings .dim) maxDim)) ⌝ }
     {
-        let micro = Micro {
-            cf: Spherical::new(),
-            last: 0.0,
+        let micro = DenMicro {
+            body: Body::new(),
             t0: 0.0,
         };
         let bm = settings.beta * settings.mu;

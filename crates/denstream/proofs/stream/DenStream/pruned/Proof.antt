@@ -15,11 +15,11 @@ potential-held-requires c κs = search needs
 outliers-held-requires : tie.Need-outliers-held-requires
 outliers-held-requires c κs = search needs
 
-prune-potential-requires : tie.Need-prune-potential-requires
-prune-potential-requires c κs = search needs
+pruned-requires : tie.Need-pruned-requires
+pruned-requires c κs = search needs
 
-prune-outliers-requires : tie.Need-prune-outliers-requires
-prune-outliers-requires c κs = search needs
+pruned-requires-2 : tie.Need-pruned-requires-2
+pruned-requires-2 c κs = search needs
 
 returns : tie.Need-returns
 returns c =
@@ -27,8 +27,8 @@ returns c =
     let s = e .args .self in
     let np = c .before .before .before .before .before .before .before .potential-held in
     let no = c .before .before .before .before .before .before .outliers-held in
-    let a = c .before .before .before .prune-potential in
-    let b = c .before .before .prune-outliers in
+    let a = c .before .before .before .pruned in
+    let b = c .before .before .pruned2 in
     let potential-room : length (s .potential) ≡ microsMost = sym (length-map (s .potential) _) ∙ e .good .0 .1 .1 .1 .1 .0 .1 .0 .1 in
     let outliers-room : length (s .outliers) ≡ microsMost = sym (length-map (s .outliers) _) ∙ e .good .0 .1 .1 .1 .1 .1 .1 .0 .1 .0 .1 in
     ap (holding (view s))
@@ -42,6 +42,6 @@ pruned-spec =
     (tie.spec
     potential-held-requires
     outliers-held-requires
-    prune-potential-requires
-    prune-outliers-requires
+    pruned-requires
+    pruned-requires-2
     returns)
