@@ -58,7 +58,9 @@ module _ (n : ℕ) (s : State) (x : List Float) (c : Counts n (s .t)) (g : Both 
   all-later : (l : List DenMicro) → Each (Kept n (s .params .settings .dim)) l → All l
   all-later l e = each-more (λ (m : DenMicro) k. kept-later n (s .params .settings .dim) m (c .limit) k) l e
 
-  grown : (l : List DenMicro) (b : Near DenMicro) → Each (Kept n (s .params .settings .dim)) l → Tried s x l b → Kept (n + 1) (s .params .settings .dim) (b .micro)
+  grown :
+      (l : List DenMicro) (b : Near DenMicro) → Each (Kept n (s .params .settings .dim)) l → Tried s x l b →
+      Kept (n + 1) (s .params .settings .dim) (b .micro)
   grown l b e t =
       subst (Kept (n + 1) (s .params .settings .dim)) (sym (t .grown))
       (kept-absorbs n (s .params .settings .dim) (s .params .settings .lambda) (s .t) x (t .old) c

@@ -21,7 +21,8 @@ module _ (f : Body → Float) where
   figures-in w same (b ∷ l) = ap₂ _∷_ (same b) (figures-in w same l)
 
   -- a turn of the loop: i figures are written
-  module _ (n : ℕ) (l : List Body) (lent out : List Float) (i : ℕ) (h : n ≤ length l) (room : n ≤ length lent) (e : out ≡ partly (map f (take n l)) lent i) where
+  module _ (n : ℕ) (l : List Body) (lent out : List Float) (i : ℕ) (h : n ≤ length l) (room : n ≤ length lent)
+      (e : out ≡ partly (map f (take n l)) lent i) where
     pub figure-place : i < n → i < length out
     figure-place = copy-place (map f (take n l)) lent out n (figures-length n l h) room i e
 

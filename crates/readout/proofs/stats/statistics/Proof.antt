@@ -8,7 +8,8 @@ use Rattle.readout.proofs.stats.statistics.Tie as tie
 
 counted :
     (c : tie.After-cut2) →
-    Counted (c .before .before .before .before .before .args .bodies) (c .before .before .before .before .before .args .n) (c .before .cut .result) (c .before .before .before .before .before .args .dim) (c .cut2 .result)
+    Counted (c .before .before .before .before .before .args .bodies) (c .before .before .before .before .before .args .n) (c .before .cut .result)
+    (c .before .before .before .before .before .args .dim) (c .cut2 .result)
 counted c =
     let s = c .before .before .before .before .before in
     record { end-is = c .before .cut .ensures; w-is = c .cut2 .ensures; wide = means-wide (s .args .bodies) _ (s .good .0 .1 .1); long = omega arith }
@@ -55,11 +56,13 @@ same-length-3 c = search needs
 
 returns-4 : tie.Need-returns-4
 returns-4 c =
-    let k = c .before .before .before .before .before .before .before .before .before .before .before .before .before .before in
+    let w = c .before .before .before .before in
+    let v = w .before .before .before .before .before in
+    let i = v .before .before in
+    let k = i .before .before .before in
     let a = k .before .before .before .before .before .args in
-    all-written (a .lambda) (a .t) (counted k) (a .centres .now) (a .weights .now) (a .radii .now) (c .before .before .before .before .before .before .before .before .before .before .before .before .before .if1 .left)
-    (c .before .before .before .before .before .before .before .before .before .before .before .before .if2 .left) (c .before .before .before .before .before .before .before .before .before .before .before .if3 .left) _ _ _ (c .before .before .before .before .before .before .before .before .before .write-centres .ensures)
-    (c .before .before .before .before .write-figures .ensures .0) (c .before .before .before .before .write-figures .ensures .1)
+    all-written (a .lambda) (a .t) (counted k) (a .centres .now) (a .weights .now) (a .radii .now) (i .before .before .if1 .left) (i .before .if2 .left)
+    (i .if3 .left) _ _ _ (v .write-centres .ensures) (w .write-figures .ensures .0) (w .write-figures .ensures .1)
 
 pub statistics-spec : {M : Type 1} → statement M
 statistics-spec =
