@@ -31,20 +31,22 @@ short m n p e = by-cases (decLe (length p) m)
     (λ h. let q : n ≡ m = omega arith in ap (λ (k : ℕ). take m (take k p)) q ∙ take-take m m p (omega arith))
 
 -- what is left of the piece finds no room
-cut-piece : (a p : List ℕ) (at n : ℕ) → length a ≡ at → at ≤ 16384 → n ≡ min (length p) (16384 - at) → take room (a ++ take n p) ≡ take room (a ++ p)
+cut-piece :
+    (a p : List ℕ) (at n : ℕ) → length a ≡ at → at ≤ room → n ≡ min (length p) (room - at) →
+    take room (a ++ take n p) ≡ take room (a ++ p)
 cut-piece a p at n l h e =
-    let r : 16384 ≡ length a + (16384 - at) = omega arith in
+    let r : room ≡ length a + (room - at) = omega arith in
     ap (λ (k : ℕ). take k (a ++ take n p)) r
-    ∙ take-append-add a (take n p) (16384 - at)
-    ∙ ap (λ (q : List ℕ). a ++ q) (short (16384 - at) n p e)
-    ∙ sym (take-append-add a p (16384 - at))
+    ∙ take-append-add a (take n p) (room - at)
+    ∙ ap (λ (q : List ℕ). a ++ q) (short (room - at) n p e)
+    ∙ sym (take-append-add a p (room - at))
     ∙ ap (λ (k : ℕ). take k (a ++ p)) (sym r)
 
 pub added :
-    (text : Text) (at n : ℕ) (piece bytes : List ℕ) → length (text .bytes) ≡ 16384 → at ≡ min (text .len) 16384 → n ≡ min (length piece) (16384 - at) →
+    (text : Text) (at n : ℕ) (piece bytes : List ℕ) → length (text .bytes) ≡ room → at ≡ min (text .len) room → n ≡ min (length piece) (room - at) →
     take (at + n) bytes ≡ take at (text .bytes) ++ take n piece → Added text piece (record { bytes = bytes; len = at + n })
 added text at n piece bytes l a k e =
-    let h : at ≤ 16384 = omega arith in
+    let h : at ≤ room = omega arith in
     let m : at + n ≤ room = omega arith in
     let q = length-append (take at (text .bytes)) (take n piece) in
     record {
@@ -52,6 +54,6 @@ added text at n piece bytes l a k e =
           e
           ∙ sym (take-all room (take at (text .bytes) ++ take n piece) (omega (arith, q, length-take at (text .bytes), length-take n piece)))
           ∙ cut-piece (take at (text .bytes)) piece at n (length-take-le at (text .bytes) (omega arith)) h k
-          ∙ ap (λ (f : List ℕ). take room (f ++ piece)) (cut-take at (text .len) 16384 (text .bytes) a l);
+          ∙ ap (λ (f : List ℕ). take room (f ++ piece)) (cut-take at (text .len) room (text .bytes) a l);
       len = inl m;
     }

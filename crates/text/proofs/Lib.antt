@@ -1,3 +1,4 @@
+-- What the proofs of text share.
 pub mod Adding
 pub mod Decimals
 pub mod Magnitudes

@@ -15,12 +15,12 @@ use Rattle.model.specs.ReadOut.{written}
 use Rattle.text.specs.declared.text.Text.{Text}
 use Rattle.text.specs.declared.writing.Writing.{Writing}
 use Rattle.text.specs.declared.writing.Writing.the-variants.{Written, TooShort}
-use Rattle.text.specs.Text.{textOf}
+use Rattle.text.specs.Text.{room, textOf}
 use Rattle.text.specs.Lent.{writtenBytes, TextWritten, writeTold, writeOf}
 
 module _ (text lent : List ℕ) where
   abbrev told : Bool → TextWritten
-  told room = cond room (record { said = gives (length text); output = written text lent }) (record { said = refuses 10 []; output = lent })
+  told place = cond place (record { said = gives (length text); output = written text lent }) (record { said = refuses 10 []; output = lent })
 
   pub no-place : length lent < length text → writeTold TooShort lent ≡ writeOf text lent
   no-place h = ap told (sym (lt-leb (length text) (length lent) h))
@@ -45,12 +45,12 @@ module _ (text lent : List ℕ) where
         ∙ ap told (sym (le-leb (length text) (length lent) k))
 
 -- a text's length, cut to the room, is its length
-module _ (t : Text) (n : ℕ) (cut : n ≡ min (t .len) 16384) (room : length (t .bytes) ≡ 16384) where
+module _ (t : Text) (n : ℕ) (cut : n ≡ min (t .len) room) (full : length (t .bytes) ≡ room) where
   pub cut-text : take n (t .bytes) ≡ textOf t
-  cut-text = cut-take n (t .len) 16384 (t .bytes) cut room
+  cut-text = cut-take n (t .len) room (t .bytes) cut full
 
   pub cut-length : length (textOf t) ≡ n
-  cut-length = length-take (t .len) (t .bytes) ∙ ap (min (t .len)) room ∙ sym cut
+  cut-length = length-take (t .len) (t .bytes) ∙ ap (min (t .len)) full ∙ sym cut
 
 -- how many bytes a program shows
 module _ (w : Writing) (out : List ℕ) where

@@ -1,3 +1,4 @@
+-- Text that grows piece by piece, numbers in decimal digits, text in a lent slice; what follows is in Laws.
 pub mod Ascii
 pub mod Text
 pub mod Decimal

@@ -12,6 +12,7 @@ ghost use Rattle.text.specs.Decimal.{decimal, integer, right};
 // The most digits of a number.
 const DIGITS: usize = 20;
 
+// The digits, no zero in front.
 pub fn add_number(text: Text, n: u64) -> Text
     ensures { λ r. ⌜ Added text (decimal n) r ⌝ }
 {

@@ -7,6 +7,7 @@ ghost use mathlib.Core.Path.{_≡_};
 ghost use Rattle.text.specs.Text.{textOf};
 ghost use Rattle.text.specs.Refusal.{refusedLine};
 
+// Document 01: the line `refused`, a space and the number.
 pub fn refused(number: u64) -> Text
     ensures { λ r. ⌜ textOf r ≡ refusedLine number ⌝ }
 {

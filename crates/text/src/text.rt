@@ -15,6 +15,7 @@ pub struct Text {
     pub len: usize,
 }
 
+// A text with nothing in it.
 pub fn blank() -> Text
     ensures { λ r. ⌜ textOf r ≡ [] ⌝ }
     ensures { λ r. ⌜ r .len ≡ 0 ⌝ }
@@ -25,6 +26,7 @@ pub fn blank() -> Text
     }
 }
 
+// The piece at the end of the text; what the room cannot take is cut off.
 pub fn add(text: Text, piece: &[u8]) -> Text
     ensures { λ r. ⌜ Added text (now (piece .entry)) r ⌝ }
 {
@@ -39,6 +41,7 @@ pub fn add(text: Text, piece: &[u8]) -> Text
     Text { bytes, len: at + n }
 }
 
+// One byte at the end.
 pub fn add_byte(text: Text, byte: u8) -> Text
     ensures { λ r. ⌜ Added text (byte ∷ []) r ⌝ }
 {
@@ -46,6 +49,7 @@ pub fn add_byte(text: Text, byte: u8) -> Text
     add(text, &piece)
 }
 
+// n blanks at the end.
 pub fn add_blanks(text: Text, n: usize) -> Text
     ensures { λ r. ⌜ Added text (blanks n) r ⌝ }
 {
@@ -59,6 +63,7 @@ pub fn add_blanks(text: Text, n: usize) -> Text
 }
 
 impl Text {
+    // All of it at the start of the output, if that has a place for each byte.
     pub fn write(self, output: &mut [u8]) -> Writing
         ensures { λ r. ⌜ writeTold r (now (output .exit)) ≡ writeOf (textOf self) (now (output .entry)) ⌝ }
     {

@@ -12,40 +12,27 @@ use Rattle.text.proofs.Magnitudes.{text-above, text-below}
 use Rattle.text.proofs.number.add_integer.Statement.{statement}
 use Rattle.text.proofs.number.add_integer.Tie as tie
 
-magnitude-requires : tie.Need-magnitude-requires
-magnitude-requires c κs = search needs
-
-add-number-requires : tie.Need-add-number-requires
-add-number-requires c κs = search needs
-
 returns : tie.Need-returns
 returns c =
     let s = c .before .before .before in
-    worded (ap decimal (c .before .before .magnitude .ensures ∙ ap natAbs (toZ-ofZ (s .fits .n))) ∙ text-above (s .args .n) (s .fits .n) (c .before .if1 .taken)) (c .«add-number» .ensures)
-
-slice-aggregate-add : tie.Need-slice-aggregate-add
-slice-aggregate-add c = search needs
-
-add-requires : tie.Need-add-requires
-add-requires c κs = search needs
-
-add-number-requires-2 : tie.Need-add-number-requires-2
-add-number-requires-2 c κs = search needs
+    let size = c .before .before .magnitude .ensures ∙ ap natAbs (toZ-ofZ (s .fits .n)) in
+    worded (ap decimal size ∙ text-above (s .args .n) (s .fits .n) (c .before .if1 .taken)) (c .«add-number» .ensures)
 
 returns-2 : tie.Need-returns-2
 returns-2 c =
     let s = c .before .before .before .before .before in
-    worded (ap (λ (n : ℕ). ascii "-" ++ decimal n) (c .before .before .before .before .magnitude .ensures ∙ ap natAbs (toZ-ofZ (s .fits .n))) ∙ text-below (s .args .n) (s .fits .n) (c .before .before .before .if1 .left))
+    let size = c .before .before .before .before .magnitude .ensures ∙ ap natAbs (toZ-ofZ (s .fits .n)) in
+    let digits = ap (λ (n : ℕ). ascii "-" ++ decimal n) size in
+    worded (digits ∙ text-below (s .args .n) (s .fits .n) (c .before .before .before .if1 .left))
     (both (c .before .add .ensures) (c .«add-number2» .ensures))
 
 pub add-integer-spec : {M : Type 1} → statement M
 add-integer-spec =
     tie.close
     (tie.spec
-    magnitude-requires
-    add-number-requires
+    (λ c κs. search needs)
+    (λ c κs. search needs)
     returns
-    slice-aggregate-add
-    add-requires
-    add-number-requires-2
+    (λ c. search needs) (λ c κs. search needs)
+    (λ c κs. search needs)
     returns-2)

@@ -21,20 +21,11 @@ returns c = let a = c .before .args in no-place (a .bytes .now) (a .output .now)
 loop-holds : tie.Need-loop-holds Inv-loop μ-loop
 loop-holds c = let a = c .before .args in (omega arith, paste-zero (a .output .now) 0 (a .bytes .now))
 
-shared-slice-read-output : tie.Need-shared-slice-read-output Inv-loop μ-loop
-shared-slice-read-output c = search needs
-
 slice-write-output : tie.Need-slice-write-output Inv-loop μ-loop
 slice-write-output c =
     let a = c .before .before .before .before .args in
     let l = c .before .before .loop in
     omega (arith, part-length (a .bytes .now) (a .output .now) (l .output) (l .i) (l .inv .1) (l .inv .0) (omega arith))
-
-add-i : tie.Need-add-i Inv-loop μ-loop
-add-i c = search needs
-
-loop-less : tie.Need-loop-less Inv-loop μ-loop
-loop-less c = search needs
 
 loop-again : tie.Need-loop-again Inv-loop μ-loop
 loop-again c =
@@ -62,10 +53,9 @@ write-spec =
     μ-loop
     returns
     loop-holds
-    shared-slice-read-output
+    (λ c. search needs)
     slice-write-output
-    add-i
-    loop-less
+    (λ c. search needs) (λ c. search needs)
     loop-again
     same-length
     returns-2)
