@@ -1,1 +1,2 @@
+-- What the proofs of picture_grid share.
 pub mod Lines

@@ -32,6 +32,7 @@ fn framed(frame: u8, mark: u8) -> u8
     if mark == b' ' { frame } else { mark }
 }
 
+// A line of cells, marks over the frame.
 fn add_line(text: Text, frame: &[u8; WIDTH], cells: [u8; CELLS], row: usize) -> Text
     requires { ⌜ row ≤ 20 ⌝ }
     ensures { λ r. ⌜ Added text (lineText (now (frame .entry)) cells row) r ⌝ }
@@ -94,6 +95,7 @@ fn add_rows(text: Text, up: Upward, cells: [u8; CELLS]) -> Text
     t
 }
 
+// How many have no place, if there are any.
 fn add_hidden(text: Text, hidden: u64) -> Text
     ensures { λ r. ⌜ Added text (hiddenText hidden) r ⌝ }
 {
@@ -105,6 +107,7 @@ fn add_hidden(text: Text, hidden: u64) -> Text
     add(counted, b"\n")
 }
 
+// The title, the frame with its marks, the axis below, and how many have no place.
 pub fn add_plot(text: Text, up: Upward, plot: Plot) -> Text
     ensures { λ r. ⌜ Added text (gridText up plot) r ⌝ }
 {

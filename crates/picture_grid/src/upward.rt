@@ -31,6 +31,7 @@ impl Upward {
         }
     }
 
+    // The line above the grid.
     pub(crate) fn add_title(self, text: Text) -> Text
         ensures { λ r. ⌜ Added text (titleOf self) r ⌝ }
     {

@@ -6,28 +6,13 @@ use borrow.Author.Needs.{needs}
 use Rattle.picture_grid.proofs.figure.add_figure.Statement.{statement}
 use Rattle.picture_grid.proofs.figure.add_figure.Tie as tie
 
-add-blanks-requires : tie.Need-add-blanks-requires
-add-blanks-requires c κs = search needs
-
-slice-aggregate-add : tie.Need-slice-aggregate-add
-slice-aggregate-add c = search needs
-
-add-requires : tie.Need-add-requires
-add-requires c κs = search needs
-
 returns : tie.Need-returns
 unfolding figureOf
-returns c = rw (← nan-test (c .before .before .before .before .args .x), c .before .before .before .if1 .taken) (both (c .before .before .«add-blanks» .ensures) (c .add .ensures))
-
-add-sized-requires : tie.Need-add-sized-requires
-add-sized-requires c κs = search needs
+returns c = rw (← nan-test (c .before .before .before .before .args .x), c .before .before .before .if1 .taken) (search both)
 
 returns-2 : tie.Need-returns-2
 unfolding figureOf
 returns-2 c = rw (← nan-test (c .before .before .before .args .x), c .before .before .if1 .left, c .before .if2 .taken) (c .«add-sized» .ensures)
-
-add-sized-requires-2 : tie.Need-add-sized-requires-2
-add-sized-requires-2 c κs = search needs
 
 returns-3 : tie.Need-returns-3
 unfolding figureOf
@@ -37,11 +22,10 @@ pub add-figure-spec : {M : Type 1} → statement M
 add-figure-spec =
     tie.close
     (tie.spec
-    add-blanks-requires
-    slice-aggregate-add
-    add-requires
+    (λ c κs. search needs)
+    (λ c. search needs) (λ c κs. search needs)
     returns
-    add-sized-requires
+    (λ c κs. search needs)
     returns-2
-    add-sized-requires-2
+    (λ c κs. search needs)
     returns-3)

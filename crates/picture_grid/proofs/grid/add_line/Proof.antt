@@ -1,11 +1,10 @@
 -- `add_line` meets its contract. Assumes nothing.
-use lib.ListN.{length-map}
 use Prim.Native.Nat.{ℕ, _-_, _≤_}
-use mathlib.Core.Path.{_≡_, ap, sym, _∙_}
+use mathlib.Core.Path.{_≡_, ap}
 use mathlib.Core.List.{[], _∷_}
 use native.Mathlib.Omega.{arith}
 use Rattle.text.specs.Text.{Added, each}
-use Rattle.text.specs.Laws.Pieces.{first, more, worded}
+use Rattle.text.specs.Laws.Pieces.{roomy, first, more, ended, worded}
 use Rattle.picture_grid.specs.Grid.{cellText}
 use borrow.Author.Needs.{needs}
 use Rattle.picture_grid.proofs.grid.add_line.Statement.{statement}
@@ -18,43 +17,22 @@ abbrev μ-loop : tie.MeasureT-loop
 μ-loop frame row cells t₀ i₀ t i = 63 - i
 
 loop-holds : tie.Need-loop-holds Inv-loop μ-loop
-loop-holds c = let a = c .args in (omega arith, first (cellText (a .frame .now) (a .t3) (a .row)) (c .args .text) (sym (length-map (c .args .text .bytes) _) ∙ c .good .0 .1 .1 .0 .1 .0 .1))
-
-element-copy-out-framed : tie.Need-element-copy-out-framed Inv-loop μ-loop
-element-copy-out-framed c = search needs
-
-mul-framed : tie.Need-mul-framed Inv-loop μ-loop
-mul-framed c = search needs
-
-add-framed : tie.Need-add-framed Inv-loop μ-loop
-add-framed c = search needs
-
-array-read-framed : tie.Need-array-read-framed Inv-loop μ-loop
-array-read-framed c = search needs
-
-framed-requires : tie.Need-framed-requires Inv-loop μ-loop
-framed-requires c κs = search needs
-
-add-byte-requires : tie.Need-add-byte-requires Inv-loop μ-loop
-add-byte-requires c κs = search needs
-
-add-i : tie.Need-add-i Inv-loop μ-loop
-add-i c = search needs
-
-loop-less : tie.Need-loop-less Inv-loop μ-loop
-loop-less c = search needs
+loop-holds c =
+    let a = c .args in
+    (omega arith, first (cellText (a .frame .now) (a .t3) (a .row)) (a .text) (roomy (a .text) _ (c .good .0 .1 .1 .0 .1 .0 .1)))
 
 loop-again : tie.Need-loop-again Inv-loop μ-loop
 loop-again c =
     let a = c .before .before .before .before .before .args in
     let l = c .before .before .before .before .loop in
-    (omega arith, more (cellText (a .frame .now) (a .t3) (a .row)) (l .i) (l .inv .1) (worded (ap (λ (m : ℕ). m ∷ []) (c .before .framed .ensures)) (c .«add-byte» .ensures)))
+    let cell = worded (ap (λ (m : ℕ). m ∷ []) (c .before .framed .ensures)) (c .«add-byte» .ensures) in
+    (omega arith, more (cellText (a .frame .now) (a .t3) (a .row)) (l .i) (l .inv .1) cell)
 
 returns : tie.Need-returns Inv-loop μ-loop
 returns c =
-    let l = c .before .loop in
-    let e : l .i ≡ 63 = omega arith in
-    rw (← e) (l .inv .1)
+    let a = c .before .before .args in
+    let e : c .before .loop .i ≡ 63 = omega arith in
+    ended (cellText (a .frame .now) (a .t3) (a .row)) e (c .before .loop .inv .1)
 
 pub add-line-spec : {M : Type 1} → statement M
 add-line-spec =
@@ -63,13 +41,8 @@ add-line-spec =
     Inv-loop
     μ-loop
     loop-holds
-    element-copy-out-framed
-    mul-framed
-    add-framed
-    array-read-framed
-    framed-requires
-    add-byte-requires
-    add-i
-    loop-less
+    (λ c. search needs) (λ c. search needs) (λ c. search needs) (λ c. search needs) (λ c κs. search needs)
+    (λ c κs. search needs)
+    (λ c. search needs) (λ c. search needs)
     loop-again
     returns)
