@@ -1,1 +1,2 @@
+-- What the proofs of families_lines share.
 pub mod Printing

@@ -1,1 +1,2 @@
+-- The lines that `families` prints.
 pub mod Lines

@@ -9,10 +9,12 @@ ghost use Prim.Native.Nat.{_*_, _≤_};
 ghost use mathlib.Core.Path.{_≡_};
 ghost use mathlib.Core.List.{_++_};
 ghost use lib.ListN.{take};
+ghost use Rattle.model.specs.Limits.{microsMost};
 ghost use Rattle.text.specs.Text.{textOf, Added};
 ghost use Rattle.text.specs.Laws.Sizes.{Within};
 ghost use Rattle.families_lines.specs.Lines.{lineOf, linesOf, lastLine};
 
+// Creation number and label.
 fn add_line(text: Text, id: MicroId, label: i64) -> Text
     ensures { λ r. ⌜ Added text (lineOf id label) r ⌝ }
     ensures { λ r. ⌜ Within (lineOf id label) 43 ⌝ }
@@ -25,7 +27,7 @@ fn add_line(text: Text, id: MicroId, label: i64) -> Text
 
 // The first n lines.
 fn add_lines(text: Text, ids: [MicroId; MICROS], labels: [i64; MICROS], n: usize) -> Text
-    requires { ⌜ n ≤ 64 ⌝ }
+    requires { ⌜ n ≤ microsMost ⌝ }
     ensures { λ r. ⌜ Added text (linesOf (take n ids) (take n labels)) r ⌝ }
     ensures { λ r. ⌜ Within (linesOf (take n ids) (take n labels)) (43 * n) ⌝ }
 {
@@ -38,6 +40,7 @@ fn add_lines(text: Text, ids: [MicroId; MICROS], labels: [i64; MICROS], n: usize
     t
 }
 
+// Alarms and width.
 fn add_last(text: Text, report: DriftReport) -> Text
     ensures { λ r. ⌜ Added text (lastLine report) r ⌝ }
     ensures { λ r. ⌜ Within (lastLine report) 56 ⌝ }

@@ -15,20 +15,20 @@ use Rattle.picture_lines.specs.Plot.{upwardOf, sixty, cellOf, placeOf, i
 
 -- one more
 pub mark-more :
-    (up : Upward) (at : ℕ → Row) (i : ℕ) (plot next : Plot) (row : Row) → plot ≡ plotOf up at i → row ≡ at i → next ≡ marked up plot row → next ≡ plotOf up at (i + 1)
+    (up : Upward) (at : ℕ → Row) (i : ℕ) (plot next : Plot) (row : Row) →
+    plot ≡ plotOf up at i → row ≡ at i → next ≡ marked up plot row → next ≡ plotOf up at (i + 1)
 unfolding plotOf
 mark-more up at i plot next row e r m = m ∙ ap₂ (marked up) e r ∙ ap (plotOf up at) (sym (add-one i))
 
 -- the two cells make the place
 pub placed :
-    (up : Upward) (row : Row) (low step : ℕ) (x : Float) (line column : ℕ) → low ≡ lowOf up → step ≡ stepOf up → x ≡ upwardOf up row → line ≡ cellOf (whole low) (whole step) 20 x →
-    column ≡ cellOf (neg sixty) two 62 (row .rate) → (line * 63 + column ≡ placeOf up row) × (line * 63 + column < 1323)
-placed up row low step x line column l s f e g = (
-  ap₂ (λ (a b : ℕ). a * 63 + b)
-      (e ∙ ap (λ (n : ℕ). cellOf (whole n) (whole step) 20 x) l ∙ ap (λ (n : ℕ). cellOf (whole (lowOf up)) (whole n) 20 x) s ∙ ap (cellOf (whole (lowOf up)) (whole (stepOf up)) 20) f)
-      g,
-  omega arith,
-)
+    (up : Upward) (row : Row) (low step : ℕ) (x : Float) (line column : ℕ) →
+    low ≡ lowOf up → step ≡ stepOf up → x ≡ upwardOf up row →
+    line ≡ cellOf (whole low) (whole step) 20 x → column ≡ cellOf (neg sixty) two 62 (row .rate) →
+    (line * 63 + column ≡ placeOf up row) × (line * 63 + column < 1323)
+placed up row low step x line column l s f e g =
+    let height : line ≡ cellOf (whole (lowOf up)) (whole (stepOf up)) 20 (upwardOf up row) = rw (← l, ← s, ← f) e in
+    (ap₂ (λ (a b : ℕ). a * 63 + b) height g, omega arith)
 
 -- a micro-cluster is counted or marked
 module _ (up : Upward) (plot : Plot) (row : Row) where

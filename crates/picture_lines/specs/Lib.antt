@@ -1,3 +1,4 @@
+-- The page of `picture`: rows, words and grids; what follows is in Laws.
 pub mod Row
 pub mod Words
 pub mod Plot

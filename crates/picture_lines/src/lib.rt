@@ -9,6 +9,7 @@ pub use row::CENTRES;
 use text::Text;
 use text::add;
 ghost use Prim.Native.Nat.{min};
+ghost use Rattle.model.specs.Limits.{microsMost};
 ghost use Rattle.text.specs.Text.{Added};
 ghost use Rattle.picture_lines.specs.Picture.{pageOf};
 
@@ -21,7 +22,7 @@ pub fn drawn(
     n: usize,
     alarms: u64,
 ) -> Text
-    ensures { λ r. ⌜ Added text (pageOf (min n 64) centres weights labels alarms) r ⌝ }
+    ensures { λ r. ⌜ Added text (pageOf (min n microsMost) centres weights labels alarms) r ⌝ }
 {
     let k = lists::cut(n, MICROS);
     if k == 0 {

@@ -13,6 +13,7 @@ use picture_grid::WIDTH;
 use text::Text;
 ghost use mathlib.Core.Path.{_≡_};
 ghost use Prim.Native.Nat.{_+_, _≤_, _<_};
+ghost use Rattle.model.specs.Limits.{microsMost};
 ghost use Rattle.text.specs.Text.{Added};
 ghost use Rattle.picture_grid.specs.Grid.{gridText};
 ghost use Rattle.picture_lines.specs.Row.{rowAt};
@@ -68,8 +69,9 @@ fn over(old: u8, mark: u8) -> u8
     mark
 }
 
+// A mark in its cell, or one more without a place.
 fn marked(plot: Plot, up: Upward, row: Row) -> Plot
-    requires { ⌜ plot .hidden ≤ 64 ⌝ }
+    requires { ⌜ plot .hidden ≤ microsMost ⌝ }
     ensures { λ r. ⌜ r ≡ marked up plot row ⌝ }
     ensures { λ r. ⌜ r .hidden ≤ plot .hidden + 1 ⌝ }
 {
@@ -96,7 +98,7 @@ fn plotted(
     labels: [i64; MICROS],
     n: usize,
 ) -> Plot
-    requires { ⌜ n ≤ 64 ⌝ }
+    requires { ⌜ n ≤ microsMost ⌝ }
     ensures { λ r. ⌜ r ≡ plotOf up (rowAt centres weights labels) n ⌝ }
 {
     let mut plot = Plot {
@@ -120,7 +122,7 @@ pub(crate) fn add_grid(
     labels: [i64; MICROS],
     n: usize,
 ) -> Text
-    requires { ⌜ n ≤ 64 ⌝ }
+    requires { ⌜ n ≤ microsMost ⌝ }
     ensures { λ r. ⌜ Added text (gridText up (plotOf up (rowAt centres weights labels) n)) r ⌝ }
 {
     picture_grid::add_plot(text, up, plotted(up, centres, weights, labels, n))

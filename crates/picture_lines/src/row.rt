@@ -2,6 +2,7 @@
 use model::MICROS;
 ghost use mathlib.Core.Path.{_≡_};
 ghost use Prim.Native.Nat.{_<_};
+ghost use Rattle.model.specs.Limits.{microsMost};
 ghost use Rattle.picture_lines.specs.Row.{letterOf, markOf, rowAt};
 
 // The three figures of each centre.
@@ -31,6 +32,7 @@ pub(crate) fn letter(family: u64) -> u8
     b'#'
 }
 
+// The letter of a family, or the mark of none.
 fn mark(label: i64) -> u8
     ensures { λ r. ⌜ r ≡ markOf label ⌝ }
 {
@@ -40,13 +42,14 @@ fn mark(label: i64) -> u8
     WEAK
 }
 
+// The row of the micro-cluster at a place.
 pub(crate) fn row_at(
     centres: [f64; CENTRES],
     weights: [f64; MICROS],
     labels: [i64; MICROS],
     i: usize,
 ) -> Row
-    requires { ⌜ i < 64 ⌝ }
+    requires { ⌜ i < microsMost ⌝ }
     ensures { λ r. ⌜ r ≡ rowAt centres weights labels i ⌝ }
 {
     Row {

@@ -9,6 +9,7 @@ use picture_grid::add_figure;
 use text::Text;
 use text::add;
 ghost use Prim.Native.Nat.{_≤_};
+ghost use Rattle.model.specs.Limits.{microsMost};
 ghost use Rattle.text.specs.Text.{Added, each};
 ghost use Rattle.picture_lines.specs.Row.{letterOf, rowAt};
 ghost use Rattle.picture_lines.specs.Words.{headingOf, lineOf, lineIn, linesIn, alarmOf, wordsOf};
@@ -16,6 +17,7 @@ ghost use Rattle.picture_lines.specs.Words.{headingOf, lineOf, lineIn, l
 // One more than the letters that there are: the last is the sign that other families share.
 const LETTERS: u64 = 53;
 
+// The family that a mark tells.
 fn add_heading(text: Text, mark: u8) -> Text
     ensures { λ r. ⌜ Added text (headingOf mark) r ⌝ }
 {
@@ -27,6 +29,7 @@ fn add_heading(text: Text, mark: u8) -> Text
     add(named, b" ")
 }
 
+// The family and figures of a micro-cluster.
 fn add_line(text: Text, row: Row) -> Text
     ensures { λ r. ⌜ Added text (lineOf row) r ⌝ }
 {
@@ -61,7 +64,7 @@ fn add_lines_in(
     n: usize,
     mark: u8,
 ) -> Text
-    requires { ⌜ n ≤ 64 ⌝ }
+    requires { ⌜ n ≤ microsMost ⌝ }
     ensures { λ r. ⌜ Added text (linesIn (rowAt centres weights labels) n mark) r ⌝ }
 {
     let mut t = text;
@@ -81,7 +84,7 @@ fn add_families(
     labels: [i64; MICROS],
     n: usize,
 ) -> Text
-    requires { ⌜ n ≤ 64 ⌝ }
+    requires { ⌜ n ≤ microsMost ⌝ }
     ensures { λ r. ⌜ Added text (each (λ k. linesIn (rowAt centres weights labels) n (letterOf k)) 53) r ⌝ }
 {
     let mut t = text;
@@ -93,6 +96,7 @@ fn add_families(
     t
 }
 
+// What the alarm did.
 pub(crate) fn add_alarm(text: Text, alarms: u64) -> Text
     ensures { λ r. ⌜ Added text (alarmOf alarms) r ⌝ }
 {
@@ -116,7 +120,7 @@ pub(crate) fn add_words(
     n: usize,
     alarms: u64,
 ) -> Text
-    requires { ⌜ n ≤ 64 ⌝ }
+    requires { ⌜ n ≤ microsMost ⌝ }
     ensures { λ r. ⌜ Added text (wordsOf (rowAt centres weights labels) n alarms) r ⌝ }
 {
     let families = add_families(text, centres, weights, labels, n);

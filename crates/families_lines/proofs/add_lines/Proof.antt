@@ -1,11 +1,11 @@
 -- `add_lines` meets its contract. Assumes nothing.
 use Prim.Native.Nat.{_-_, _≤_}
-use mathlib.Core.Path.{_≡_, sym, _∙_}
+use mathlib.Core.Path.{_≡_}
 use native.Mathlib.Omega.{arith}
 use lib.IntN.{pos}
-use lib.ListN.{length-map}
 use mir.Facts.{toZ-ofZ}
 use mir.Syntax.{w64}
+use Rattle.text.specs.Laws.Pieces.{roomy}
 use Rattle.families_lines.proofs.Printing.{Lined, no-lines, lines-more}
 use borrow.Author.Needs.{sfits-of, needs}
 use Rattle.families_lines.proofs.add_lines.Statement.{statement}
@@ -18,35 +18,19 @@ abbrev μ-loop : tie.MeasureT-loop
 μ-loop n ids labels t₀ i₀ t i = n - i
 
 loop-holds : tie.Need-loop-holds Inv-loop μ-loop
-loop-holds c = (omega arith, no-lines (c .args .text) (c .args .t2) (c .args .t3) (sym (length-map (c .args .text .bytes) _) ∙ c .good .0 .1 .1 .0 .1 .0 .1))
-
-mul-add-line : tie.Need-mul-add-line Inv-loop μ-loop
-mul-add-line c = search needs
-
-array-copy-out-add-line : tie.Need-array-copy-out-add-line Inv-loop μ-loop
-array-copy-out-add-line c = search needs
-
-mul-add-line-2 : tie.Need-mul-add-line-2 Inv-loop μ-loop
-mul-add-line-2 c = search needs
-
-array-copy-out-add-line-2 : tie.Need-array-copy-out-add-line-2 Inv-loop μ-loop
-array-copy-out-add-line-2 c = search needs
-
-add-line-requires : tie.Need-add-line-requires Inv-loop μ-loop
-add-line-requires c κs = search needs
-
-add-i : tie.Need-add-i Inv-loop μ-loop
-add-i c = search needs
-
-loop-less : tie.Need-loop-less Inv-loop μ-loop
-loop-less c = search needs
+loop-holds c =
+    let a = c .args in
+    (omega arith, no-lines (a .text) (a .t2) (a .t3) (roomy (a .text) _ (c .good .0 .1 .1 .0 .1 .0 .1)))
 
 loop-again : tie.Need-loop-again Inv-loop μ-loop
 loop-again c =
     let a = c .before .before .before .before .before .args in
     let l = c .before .before .before .before .loop in
-    let p = c .«add-line» .ensures in
-    (omega arith, lines-more (l .i) (a .t2) (a .t3) _ (pos 0) (omega arith) (omega arith) (l .inv .1) (p .0) (p .1) (toZ-ofZ (sfits-of {w = w64} (c .before .«add-line-arg2» .given))))
+    let p = c .«add-line» .ensures in (
+      omega arith,
+      lines-more (l .i) (a .t2) (a .t3) _ (pos 0) (omega arith) (omega arith) (l .inv .1) (p .0) (p .1)
+          (toZ-ofZ (sfits-of {w = w64} (c .before .«add-line-arg2» .given))),
+    )
 
 returns : tie.Need-returns Inv-loop μ-loop
 returns c =
@@ -61,12 +45,7 @@ add-lines-spec =
     Inv-loop
     μ-loop
     loop-holds
-    mul-add-line
-    array-copy-out-add-line
-    mul-add-line-2
-    array-copy-out-add-line-2
-    add-line-requires
-    add-i
-    loop-less
+    (λ c. search needs) (λ c. search needs) (λ c. search needs) (λ c. search needs) (λ c κs. search needs)
+    (λ c. search needs) (λ c. search needs)
     loop-again
     returns)

@@ -13,6 +13,7 @@ use lib.IntN.{ℤ}
 use lib.ListN.{length, getD, set, length-append}
 use lib.Ieee.{Float}
 use Rattle.float.specs.Rounded.{_⊗_}
+use Rattle.model.specs.Limits.{microsMost}
 use Rattle.text.specs.Ascii.{ascii}
 use Rattle.text.specs.Text.{room, each}
 use Rattle.text.specs.Laws.Sizes.{Within, piece, wider, beside, either, each-within, number-within}
@@ -186,7 +187,7 @@ hidden-few up at (suc n) =
     in
     omega (arith, m, hidden-few up at n)
 
-module _ (at : ℕ → Row) (n alarms : ℕ) (few : n ≤ 64) (h : alarms < 2 ^ 64) where
+module _ (at : ℕ → Row) (n alarms : ℕ) (few : n ≤ microsMost) (h : alarms < 2 ^ 64) where
   abbrev families : List ℕ
   families = each (λ (k : ℕ). linesIn at n (letterOf k)) 53
 
@@ -208,7 +209,7 @@ module _ (at : ℕ → Row) (n alarms : ℕ) (few : n ≤ 64) (h : alarms < 2 ^ 
 
 -- a page is never cut
 pub page-within :
-    (n : ℕ) (centres weights : List Float) (labels : List ℤ) (alarms : ℕ) → n ≤ 64 → alarms < 2 ^ 64 →
+    (n : ℕ) (centres weights : List Float) (labels : List ℤ) (alarms : ℕ) → n ≤ microsMost → alarms < 2 ^ 64 →
     Within (pageOf n centres weights labels alarms) room
 page-within n centres weights labels alarms few h =
     let k : 19 + 48 ≤ room = omega arith in

@@ -6,14 +6,9 @@ use borrow.Author.Needs.{needs}
 use Rattle.picture_lines.proofs.plot.add_grid.Statement.{statement}
 use Rattle.picture_lines.proofs.plot.add_grid.Tie as tie
 
-plotted-requires : tie.Need-plotted-requires
-plotted-requires c κs = search needs
-
-add-plot-requires : tie.Need-add-plot-requires
-add-plot-requires c κs = search needs
-
 returns : tie.Need-returns
 returns c = worded (ap (gridText (c .before .before .args .up)) (c .before .plotted .ensures)) (c .«add-plot» .ensures)
 
 pub add-grid-spec : {M : Type 1} → statement M
-add-grid-spec = tie.close (tie.spec plotted-requires add-plot-requires returns)
+add-grid-spec =
+    tie.close (tie.spec (λ c κs. search needs) (λ c κs. search needs) returns)

@@ -11,39 +11,33 @@ use Rattle.picture_lines.proofs.plot.marked.Tie as tie
 room : (s : tie.Start) → length (s .args .plot .cells) ≡ 1323
 room s = sym (length-map (s .args .plot .cells) _) ∙ s .good .0 .1 .1 .0 .1 .0 .1
 
-is-hidden-requires : tie.Need-is-hidden-requires
-is-hidden-requires c κs = search needs
-
-add-t8 : tie.Need-add-t8
-add-t8 c = search needs
-
 returns : tie.Need-returns
-returns c = (not-shown (c .before .before .before .before .args .up) (c .before .before .before .before .args .plot) (c .before .before .before .before .args .row) (sym (c .before .before .«is-hidden» .ensures) ∙ c .before .if1 .taken), omega arith)
-
-place-requires : tie.Need-place-requires
-place-requires c κs = search needs
+returns c =
+    let a = c .before .before .before .before .args in
+    (not-shown (a .up) (a .plot) (a .row) (sym (c .before .before .«is-hidden» .ensures) ∙ c .before .if1 .taken), omega arith)
 
 array-read-over : tie.Need-array-read-over
 array-read-over c = omega (arith, room (c .before .before .before .before), c .place .ensures .1)
-
-over-requires : tie.Need-over-requires
-over-requires c κs = search needs
 
 array-write-cells : tie.Need-array-write-cells
 array-write-cells c = omega (arith, room (c .before .before .before .before .before), c .before .place .ensures .1)
 
 returns-2 : tie.Need-returns-2
-returns-2 c = (shown (c .before .before .before .before .before .args .up) (c .before .before .before .before .before .args .plot) (c .before .before .before .before .before .args .row) (sym (c .before .before .before .«is-hidden» .ensures) ∙ c .before .before .if1 .left) (c .before .place .result) (c .over .result) (c .before .place .ensures .0) (c .over .ensures), omega arith)
+returns-2 c =
+    let a = c .before .before .before .before .before .args in
+    let seen = sym (c .before .before .before .«is-hidden» .ensures) ∙ c .before .before .if1 .left in
+    let place = c .before .place in
+    (shown (a .up) (a .plot) (a .row) seen (place .result) (c .over .result) (place .ensures .0) (c .over .ensures), omega arith)
 
 pub marked-spec : {M : Type 1} → statement M
 marked-spec =
     tie.close
     (tie.spec
-    is-hidden-requires
-    add-t8
+    (λ c κs. search needs)
+    (λ c. search needs)
     returns
-    place-requires
+    (λ c κs. search needs)
     array-read-over
-    over-requires
+    (λ c κs. search needs)
     array-write-cells
     returns-2)

@@ -19,23 +19,15 @@ loop-holds : tie.Need-loop-holds Inv-loop μ-loop
 unfolding plotOf
 loop-holds c = (omega arith, omega arith, refl)
 
-row-at-requires : tie.Need-row-at-requires Inv-loop μ-loop
-row-at-requires c κs = search needs
-
-marked-requires : tie.Need-marked-requires Inv-loop μ-loop
-marked-requires c κs = search needs
-
-add-i : tie.Need-add-i Inv-loop μ-loop
-add-i c = search needs
-
-loop-less : tie.Need-loop-less Inv-loop μ-loop
-loop-less c = search needs
-
 loop-again : tie.Need-loop-again Inv-loop μ-loop
 loop-again c =
     let a = c .before .before .before .before .args in
     let l = c .before .before .before .loop in
-    (omega arith, omega (arith, c .marked .ensures .1), mark-more (a .up) (rowAt (a .centres) (a .weights) (a .labels)) (l .i) (l .plot) (c .marked .result) (c .before .«row-at» .result) (l .inv .2) (c .before .«row-at» .ensures) (c .marked .ensures .0))
+    let at = rowAt (a .centres) (a .weights) (a .labels) in
+    let row = c .before .«row-at» in
+    let next = c .marked in
+    let drawn = mark-more (a .up) at (l .i) (l .plot) (next .result) (row .result) (l .inv .2) (row .ensures) (next .ensures .0) in
+    (omega arith, omega (arith, next .ensures .1), drawn)
 
 returns : tie.Need-returns Inv-loop μ-loop
 returns c =
@@ -50,9 +42,8 @@ plotted-spec =
     Inv-loop
     μ-loop
     loop-holds
-    row-at-requires
-    marked-requires
-    add-i
-    loop-less
+    (λ c κs. search needs)
+    (λ c κs. search needs)
+    (λ c. search needs) (λ c. search needs)
     loop-again
     returns)

@@ -12,9 +12,6 @@ use Rattle.picture_lines.proofs.row.mark.Tie as tie
 cast-letter : tie.Need-cast-letter
 cast-letter c = above (c .before .args .label) (c .before .fits .label) (c .if1 .taken)
 
-letter-requires : tie.Need-letter-requires
-letter-requires c κs = search needs
-
 returns : tie.Need-returns
 returns c =
     let s = c .before .before in
@@ -24,4 +21,5 @@ returns-2 : tie.Need-returns-2
 returns-2 c = mark-below (c .before .args .label) (c .before .fits .label) (c .if1 .left)
 
 pub mark-spec : {M : Type 1} → statement M
-mark-spec = tie.close (tie.spec cast-letter letter-requires returns returns-2)
+mark-spec =
+    tie.close (tie.spec cast-letter (λ c κs. search needs) returns returns-2)

@@ -1,15 +1,20 @@
 -- `add_lines_in` meets its contract. Assumes nothing.
-use lib.ListN.{length-map}
 use Prim.Native.Nat.{ℕ, _-_, _≤_}
-use mathlib.Core.Path.{_≡_, ap, sym, _∙_}
+use mathlib.Core.Path.{_≡_, ap}
 use native.Mathlib.Omega.{arith}
+use mathlib.Core.List.{List}
+use Rattle.picture_lines.specs.declared.row.Row.{Row}
 use borrow.Author.Needs.{needs}
 use Rattle.text.specs.Text.{Added}
-use Rattle.text.specs.Laws.Pieces.{first, more, worded}
+use Rattle.text.specs.Laws.Pieces.{roomy, first, more, worded, ended}
 use Rattle.picture_lines.specs.Row.{rowAt}
 use Rattle.picture_lines.specs.Words.{lineIn, linesIn}
 use Rattle.picture_lines.proofs.words.add_lines_in.Statement.{statement}
 use Rattle.picture_lines.proofs.words.add_lines_in.Tie as tie
+
+-- the line of a micro-cluster, if it has the mark
+abbrev lineAt : (ℕ → Row) → (mark i : ℕ) → List ℕ
+lineAt at mark i = lineIn mark (at i)
 
 abbrev Inv-loop : tie.InvT-loop
 Inv-loop centres weights labels n mark t₀ i₀ t i = (i ≤ n) × Added t₀ (linesIn (rowAt centres weights labels) i mark) t
@@ -18,31 +23,24 @@ abbrev μ-loop : tie.MeasureT-loop
 μ-loop centres weights labels n mark t₀ i₀ t i = n - i
 
 loop-holds : tie.Need-loop-holds Inv-loop μ-loop
-loop-holds c = let a = c .args in (omega arith, first (λ (i : ℕ). lineIn (a .mark) (rowAt (a .centres) (a .weights) (a .labels) i)) (c .args .text) (sym (length-map (c .args .text .bytes) _) ∙ c .good .0 .1 .1 .0 .1 .0 .1))
-
-row-at-requires : tie.Need-row-at-requires Inv-loop μ-loop
-row-at-requires c κs = search needs
-
-add-line-in-requires : tie.Need-add-line-in-requires Inv-loop μ-loop
-add-line-in-requires c κs = search needs
-
-add-i : tie.Need-add-i Inv-loop μ-loop
-add-i c = search needs
-
-loop-less : tie.Need-loop-less Inv-loop μ-loop
-loop-less c = search needs
+loop-holds c =
+    let a = c .args in
+    let line = lineAt (rowAt (a .centres) (a .weights) (a .labels)) (a .mark) in
+    (omega arith, first line (a .text) (roomy (a .text) _ (c .good .0 .1 .1 .0 .1 .0 .1)))
 
 loop-again : tie.Need-loop-again Inv-loop μ-loop
 loop-again c =
     let a = c .before .before .before .before .args in
     let l = c .before .before .before .loop in
-    (omega arith, more (λ (i : ℕ). lineIn (a .mark) (rowAt (a .centres) (a .weights) (a .labels) i)) (l .i) (l .inv .1) (worded (ap (lineIn (a .mark)) (c .before .«row-at» .ensures)) (c .«add-line-in» .ensures)))
+    let line = lineAt (rowAt (a .centres) (a .weights) (a .labels)) (a .mark) in
+    let next = worded (ap (lineIn (a .mark)) (c .before .«row-at» .ensures)) (c .«add-line-in» .ensures) in
+    (omega arith, more line (l .i) (l .inv .1) next)
 
 returns : tie.Need-returns Inv-loop μ-loop
 returns c =
-    let l = c .before .loop in
-    let e : l .i ≡ c .before .before .args .n = omega arith in
-    rw (← e) (l .inv .1)
+    let a = c .before .before .args in
+    let e : c .before .loop .i ≡ a .n = omega arith in
+    ended (lineAt (rowAt (a .centres) (a .weights) (a .labels)) (a .mark)) e (c .before .loop .inv .1)
 
 pub add-lines-in-spec : {M : Type 1} → statement M
 add-lines-in-spec =
@@ -51,9 +49,8 @@ add-lines-in-spec =
     Inv-loop
     μ-loop
     loop-holds
-    row-at-requires
-    add-line-in-requires
-    add-i
-    loop-less
+    (λ c κs. search needs)
+    (λ c κs. search needs)
+    (λ c. search needs) (λ c. search needs)
     loop-again
     returns)
