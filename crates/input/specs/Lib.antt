@@ -1,1 +1,2 @@
+-- What the one reader of the programs gives.
 pub mod Read

@@ -13,7 +13,7 @@ use lib.Ieee.{Float}
 use borrow.Author.Tests.{le-leb, lt-leb, eq-eqb, ne-eqb}
 use Rattle.words.specs.Word.{wordAt}
 use Rattle.model.specs.Questions.{dimInRange}
-use Rattle.input_session.specs.Input.{doubleAt, settingsIn, doublesFrom, isWhole}
+use Rattle.input_session.specs.Input.{inputMost, headSize, doubleAt, settingsIn, doublesFrom, isWhole}
 
 -- ---- a point's doubles
 module _ (bytes : List ℕ) (at dim : ℕ) (x : List Float) (i : ℕ) where
@@ -21,7 +21,9 @@ module _ (bytes : List ℕ) (at dim : ℕ) (x : List Float) (i : ℕ) where
   abbrev pub Partly : Type 0
   Partly = take i x ++ doublesFrom (dim - i) bytes (at + i * 8) ≡ doublesFrom dim bytes at
 
-  pub read-step : Partly → i < dim → i < length x → (v : Float) → v ≡ doubleAt bytes (at + i * 8) → take (i + 1) (set x i v) ++ doublesFrom (dim - (i + 1)) bytes (at + (i + 1) * 8) ≡ doublesFrom dim bytes at
+  pub read-step :
+      Partly → i < dim → i < length x → (v : Float) → v ≡ doubleAt bytes (at + i * 8) →
+      take (i + 1) (set x i v) ++ doublesFrom (dim - (i + 1)) bytes (at + (i + 1) * 8) ≡ doublesFrom dim bytes at
   unfolding doublesFrom
   read-step e h l v q =
       let n : dim - i ≡ suc (dim - (i + 1)) = omega arith in
@@ -50,21 +52,23 @@ read-start bytes at dim =
 -- ---- question 11, part by part
 module _ (bytes : List ℕ) where
   abbrev points : Bool
-  points = cond (dimInRange (wordAt bytes 0)) (eqb ((length bytes - 40) % (wordAt bytes 0 * 8)) 0) true
+  points = cond (dimInRange (wordAt bytes 0)) (eqb ((length bytes - headSize) % (wordAt bytes 0 * 8)) 0) true
 
-  pub too-long : 65536 < length bytes → false ≡ isWhole bytes
-  too-long h = ap (λ (b : Bool). b && leb 40 (length bytes) && eqb (length bytes % 8) 0 && points) (sym (lt-leb (length bytes) 65536 h))
+  pub too-long : inputMost < length bytes → false ≡ isWhole bytes
+  too-long h = ap (λ (b : Bool). b && leb headSize (length bytes) && eqb (length bytes % 8) 0 && points) (sym (lt-leb (length bytes) inputMost h))
 
-  module _ (few : length bytes ≤ 65536) where
-    pub too-short : length bytes < 40 → false ≡ isWhole bytes
+  module _ (few : length bytes ≤ inputMost) where
+    pub too-short : length bytes < headSize → false ≡ isWhole bytes
     too-short h =
-        ap₂ (λ (a b : Bool). a && b && eqb (length bytes % 8) 0 && points) (sym (le-leb (length bytes) 65536 few)) (sym (lt-leb 40 (length bytes) h))
+        ap₂ (λ (a b : Bool). a && b && eqb (length bytes % 8) 0 && points) (sym (le-leb (length bytes) inputMost few)) (sym (lt-leb headSize (length bytes) h))
 
-    module _ (many : 40 ≤ length bytes) where
+    module _ (many : headSize ≤ length bytes) where
       asked : (c : Bool) → eqb (length bytes % 8) 0 ≡ c → c && points ≡ isWhole bytes
       asked c e =
           ap (λ (d : Bool). d && points) (sym e)
-          ∙ ap₂ (λ (a b : Bool). a && b && eqb (length bytes % 8) 0 && points) (sym (le-leb (length bytes) 65536 few)) (sym (le-leb 40 (length bytes) many))
+          ∙ ap₂ (λ (a b : Bool). a && b && eqb (length bytes % 8) 0 && points)
+          (sym (le-leb (length bytes) inputMost few))
+          (sym (le-leb headSize (length bytes) many))
 
       pub no-words : (length bytes % 8 ≡ 0 → ⊥) → false ≡ isWhole bytes
       no-words h = asked false (ne-eqb (length bytes % 8) 0 h)
@@ -73,11 +77,11 @@ module _ (bytes : List ℕ) where
         pub all-asked : points ≡ isWhole bytes
         all-asked = asked true (eq-eqb (length bytes % 8) 0 words)
 
-        pub whole-points : dimInRange (wordAt bytes 0) ≡ true → eqb ((length bytes - 40) % (wordAt bytes 0 * 8)) 0 ≡ isWhole bytes
-        whole-points d = ap (λ (b : Bool). cond b (eqb ((length bytes - 40) % (wordAt bytes 0 * 8)) 0) true) (sym d) ∙ all-asked
+        pub whole-points : dimInRange (wordAt bytes 0) ≡ true → eqb ((length bytes - headSize) % (wordAt bytes 0 * 8)) 0 ≡ isWhole bytes
+        whole-points d = ap (λ (b : Bool). cond b (eqb ((length bytes - headSize) % (wordAt bytes 0 * 8)) 0) true) (sym d) ∙ all-asked
 
         pub any-rest : dimInRange (wordAt bytes 0) ≡ false → true ≡ isWhole bytes
-        any-rest d = ap (λ (b : Bool). cond b (eqb ((length bytes - 40) % (wordAt bytes 0 * 8)) 0) true) (sym d) ∙ all-asked
+        any-rest d = ap (λ (b : Bool). cond b (eqb ((length bytes - headSize) % (wordAt bytes 0 * 8)) 0) true) (sym d) ∙ all-asked
 
 -- a dim in range
 pub in-range : (dim : ℕ) → dimInRange dim ≡ true → (1 ≤ dim) × (dim ≤ 15)
@@ -87,6 +91,7 @@ in-range dim e =
 
 -- the settings, read one by one
 pub settings-are :
-    (bytes : List ℕ) (dim : ℕ) (r lambda alpha minWeight : Float) → dim ≡ wordAt bytes 0 → r ≡ doubleAt bytes 8 → lambda ≡ doubleAt bytes 16 → alpha ≡ doubleAt bytes 24 →
-    minWeight ≡ doubleAt bytes 32 → record { dim = dim; r = r; lambda = lambda; alpha = alpha; «min_weight» = minWeight } ≡ settingsIn bytes
+    (bytes : List ℕ) (dim : ℕ) (r lambda alpha minWeight : Float) →
+    dim ≡ wordAt bytes 0 → r ≡ doubleAt bytes 8 → lambda ≡ doubleAt bytes 16 → alpha ≡ doubleAt bytes 24 → minWeight ≡ doubleAt bytes 32 →
+    record { dim = dim; r = r; lambda = lambda; alpha = alpha; «min_weight» = minWeight } ≡ settingsIn bytes
 settings-are bytes dim r lambda alpha minWeight a b c d e = rw (a, b, c, d, e)

@@ -15,7 +15,7 @@ use Rattle.model.specs.Outcome.{Opened, Outcome}
 use Rattle.model.specs.Stream as stream
 use Rattle.model.specs.DbState.{Settings, State}
 use Rattle.model.specs.Dbstream.{asked, openOf}
-use Rattle.input_session.specs.Input.{settingsIn, pointsIn, isWhole}
+use Rattle.input_session.specs.Input.{inputMost, headSize, settingsIn, pointsIn, isWhole}
 use Rattle.input_session.specs.Session.{Ran, ran, insertAll, insertedRan, openedRan, ranOf}
 
 -- an opening that is accepted has dim in range
@@ -24,7 +24,10 @@ unfolding stream.asked
 open-dim p o e h = go (dimInRange (p .dim)) (sym (ap (λ (q : Opened State). isOpen (q .answer)) e) ∙ h)
   where
     rest : Opening
-    rest = firstNo ((positive (p .r), Radius) ∷ (lambdaInRange (p .lambda), Lambda) ∷ (shareInRange (p .alpha), Share) ∷ (positive (p .«min_weight»), Weight) ∷ []) Open
+    rest =
+        firstNo
+        ((positive (p .r), Radius) ∷ (lambdaInRange (p .lambda), Lambda) ∷ (shareInRange (p .alpha), Share) ∷ (positive (p .«min_weight»), Weight) ∷ [])
+        Open
 
     go : (b : Bool) → isOpen (cond b rest Dim) ≡ true → b ≡ true
     go true q = refl
@@ -42,9 +45,10 @@ module _ (bytes : List ℕ) (o : Opened State) (e : o ≡ openOf (settingsIn byt
   not-whole w = ap (λ (b : Bool). known b o) (sym w) ∙ is
 
   module _ (w : isWhole bytes ≡ true) where
-    pub whole-head : 40 ≤ length bytes
+    pub whole-head : headSize ≤ length bytes
     whole-head =
-        leb→le 40 (length bytes) (first (leb (length bytes) 65536) (leb 40 (length bytes)) (eqb (length bytes % 8) 0) _ (subst T (sym w) tt))
+        leb→le headSize (length bytes)
+        (first (leb (length bytes) inputMost) (leb headSize (length bytes)) (eqb (length bytes % 8) 0) _ (subst T (sym w) tt))
       where
         first : (a b c d : Bool) → T (a && b && c && d) → T b
         first a b c d t = and-r a b (and-l (a && b) c (and-l (a && b && c) d t))

@@ -7,6 +7,7 @@ ghost use Prim.Native.Nat.{_+_, _*_, _≤_};
 ghost use lib.ListN.{length, take};
 ghost use Rattle.input_session.specs.Input.{doubleAt, doublesFrom, isWhole};
 
+// The most bytes of an input, those of its settings, and those of a word.
 const INPUT: usize = 65536;
 
 pub(crate) const HEAD: usize = 40;
@@ -34,6 +35,7 @@ pub(crate) fn is_whole(bytes: &[u8]) -> bool
     true
 }
 
+// The double in the eight bytes from a place on.
 pub(crate) fn double_at(bytes: &[u8], at: usize) -> f64
     ensures { λ r. ⌜ r ≡ doubleAt (now (bytes .entry)) at ⌝ }
 {

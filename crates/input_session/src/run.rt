@@ -17,6 +17,7 @@ ghost use Rattle.dbstream.specs.View.{view, openedTold, insertedTold};
 ghost use Rattle.input_session.specs.Input.{headSize, settingsIn, pointsFrom};
 ghost use Rattle.input_session.specs.Session.{insertAll};
 
+// The stream that the settings open.
 pub(crate) fn open_stream(bytes: &[u8]) -> Opened
     ensures { λ o. ⌜ openedTold o ≡ openOf (settingsIn (now (bytes .entry))) ⌝ }
 {
@@ -37,7 +38,8 @@ pub(crate) fn open_stream(bytes: &[u8]) -> Opened
 // Every point, until one is refused.
 pub(crate) fn insert_all(stream: DbStream, bytes: &[u8], dim: usize) -> Inserted
     requires { ⌜ (1 ≤ dim) × (dim ≤ 15) × (headSize ≤ length (now bytes)) ⌝ }
-    ensures { λ r. ⌜ insertedTold r ≡ insertAll (view stream) (pointsFrom ((length (now (bytes .entry)) - headSize) / (dim * 8)) dim (now (bytes .entry)) headSize) ⌝ }
+    ensures { λ r. ⌜ insertedTold r ≡ insertAll (view stream)
+        (pointsFrom ((length (now (bytes .entry)) - headSize) / (dim * 8)) dim (now (bytes .entry)) headSize) ⌝ }
 {
     let step = dim * WORD;
     let mut left = (bytes.len() - HEAD) / step;

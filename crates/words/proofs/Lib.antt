@@ -1,1 +1,2 @@
+-- What the proofs of words share.
 pub mod Turns

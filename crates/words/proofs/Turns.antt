@@ -28,13 +28,17 @@ one-more : (n a b v : ℕ) (bytes : List ℕ) → b ≡ getD bytes a 0 → v ≡
 unfolding littleEndian
 one-more n a b v bytes e p = rw (← e, ← p) (omega arith)
 
-pub byte-read : (bytes : List ℕ) (at value k b : ℕ) → Read bytes at value k → 0 < k → b ≡ getD bytes (at + (k - 1)) 0 → b < 256 → Read bytes at (value * 256 + b) (k - 1)
+pub byte-read :
+    (bytes : List ℕ) (at value k b : ℕ) → Read bytes at value k → 0 < k → b ≡ getD bytes (at + (k - 1)) 0 → b < 256 →
+    Read bytes at (value * 256 + b) (k - 1)
 byte-read bytes at value k b r h e s =
     let n : 8 - (k - 1) ≡ suc (8 - k) = omega (arith, r .few) in
     let p : at + (k - 1) + 1 ≡ at + k = omega arith in
     record {
       few = omega (arith, r .few);
-      is = one-more (8 - k) (at + (k - 1)) b value bytes e (r .is ∙ ap (littleEndian (8 - k) bytes) (sym p)) ∙ ap (λ (i : ℕ). littleEndian i bytes (at + (k - 1))) (sym n);
+      is =
+          one-more (8 - k) (at + (k - 1)) b value bytes e (r .is ∙ ap (littleEndian (8 - k) bytes) (sym p))
+          ∙ ap (λ (i : ℕ). littleEndian i bytes (at + (k - 1))) (sym n);
       small = rw (n, pow-suc) (omega (arith, r .small));
     }
 

@@ -6,6 +6,7 @@ use lib.Dec.{eqb}
 use lib.ListN.{length}
 use borrow.Author.Needs.{needs}
 use Rattle.model.specs.Questions.{dimInRange}
+use Rattle.input_session.specs.Input.{headSize}
 use Rattle.input_session.proofs.Inputs.{too-long, too-short, no-words, whole-points, any-rest, in-range}
 use Rattle.input_session.proofs.parse.is_whole.Statement.{statement}
 use Rattle.input_session.proofs.parse.is_whole.Tie as tie
@@ -19,26 +20,29 @@ returns-2 c = too-short (c .before .before .before .args .bytes .now) (c .before
 returns-3 : tie.Need-returns-3
 returns-3 c = no-words (c .before .before .before .before .args .bytes .now) (c .before .before .if1 .left) (c .before .if2 .left) (c .if3 .taken)
 
-word-at-requires : tie.Need-word-at-requires
-word-at-requires c κs = search needs
-
-dim-in-range-requires : tie.Need-dim-in-range-requires
-dim-in-range-requires c κs = search needs
-
 mul-result : tie.Need-mul-result
-mul-result c = let d = in-range (c .before .before .word-at .result) (sym (c .before .dim-in-range .ensures) ∙ c .if4 .taken) in record { fits = omega (arith, d .1) }
+mul-result c =
+    let d = in-range (c .before .before .word-at .result) (sym (c .before .dim-in-range .ensures) ∙ c .if4 .taken) in
+    record { fits = omega (arith, d .1) }
 
 rem-result : tie.Need-rem-result
 rem-result c = omega (arith, in-range (c .before .before .word-at .result) (sym (c .before .dim-in-range .ensures) ∙ c .if4 .taken) .0)
 
 returns-4 : tie.Need-returns-4
 returns-4 c =
-    let bytes = c .before .before .before .before .before .before .before .args .bytes .now in
-    ap (λ (d : ℕ). eqb ((length bytes - 40) % (d * 8)) 0) (c .before .before .word-at .ensures)
-    ∙ whole-points bytes (c .before .before .before .before .before .if1 .left) (c .before .before .before .before .if2 .left) (c .before .before .before .if3 .left) (ap dimInRange (sym (c .before .before .word-at .ensures)) ∙ sym (c .before .dim-in-range .ensures) ∙ c .if4 .taken)
+    let dim = c .before .before .word-at in
+    let if3 = c .before .before .before in
+    let bytes = if3 .before .before .before .before .args .bytes .now in
+    let in-it = ap dimInRange (sym (dim .ensures)) ∙ sym (c .before .dim-in-range .ensures) ∙ c .if4 .taken in
+    ap (λ (d : ℕ). eqb ((length bytes - headSize) % (d * 8)) 0) (dim .ensures)
+    ∙ whole-points bytes (if3 .before .before .if1 .left) (if3 .before .if2 .left) (if3 .if3 .left) in-it
 
 returns-5 : tie.Need-returns-5
-returns-5 c = any-rest (c .before .before .before .before .before .before .before .args .bytes .now) (c .before .before .before .before .before .if1 .left) (c .before .before .before .before .if2 .left) (c .before .before .before .if3 .left) (ap dimInRange (sym (c .before .before .word-at .ensures)) ∙ sym (c .before .dim-in-range .ensures) ∙ c .if4 .left)
+returns-5 c =
+    let if3 = c .before .before .before in
+    let bytes = if3 .before .before .before .before .args .bytes .now in
+    let out-of-it = ap dimInRange (sym (c .before .before .word-at .ensures)) ∙ sym (c .before .dim-in-range .ensures) ∙ c .if4 .left in
+    any-rest bytes (if3 .before .before .if1 .left) (if3 .before .if2 .left) (if3 .if3 .left) out-of-it
 
 pub is-whole-spec : {M : Type 1} → statement M
 is-whole-spec =
@@ -47,8 +51,8 @@ is-whole-spec =
     returns
     returns-2
     returns-3
-    word-at-requires
-    dim-in-range-requires
+    (λ c κs. search needs)
+    (λ c κs. search needs)
     mul-result
     rem-result
     returns-4

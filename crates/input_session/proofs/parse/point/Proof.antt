@@ -17,32 +17,13 @@ abbrev μ-loop : tie.MeasureT-loop
 loop-holds : tie.Need-loop-holds Inv-loop μ-loop
 loop-holds c = let a = c .before .args in (omega arith, refl, read-start (a .bytes .now) (a .at) (a .dim))
 
-mul-double-at : tie.Need-mul-double-at Inv-loop μ-loop
-mul-double-at c = search needs
-
-add-double-at : tie.Need-add-double-at Inv-loop μ-loop
-add-double-at c = search needs
-
-double-at-requires : tie.Need-double-at-requires Inv-loop μ-loop
-double-at-requires c κs = search needs
-
-mul-x : tie.Need-mul-x Inv-loop μ-loop
-mul-x c = search needs
-
-array-write-x : tie.Need-array-write-x Inv-loop μ-loop
-array-write-x c = search needs
-
-add-i : tie.Need-add-i Inv-loop μ-loop
-add-i c = search needs
-
-loop-less : tie.Need-loop-less Inv-loop μ-loop
-loop-less c = search needs
-
 loop-again : tie.Need-loop-again Inv-loop μ-loop
 loop-again c =
     let a = c .before .before .before .before .args in
     let l = c .before .before .loop in
-    (omega arith, search needs, read-step (a .bytes .now) (a .at) (a .dim) (l .x) (l .i) (l .inv .2) (c .before .loop-test .taken) (omega arith) (c .double-at .result) (c .double-at .ensures))
+    let v = c .double-at in
+    let next = read-step (a .bytes .now) (a .at) (a .dim) (l .x) (l .i) (l .inv .2) (c .before .loop-test .taken) (omega arith) (v .result) (v .ensures) in
+    (omega arith, search needs, next)
 
 returns : tie.Need-returns Inv-loop μ-loop
 returns c =
@@ -57,12 +38,7 @@ point-spec =
     Inv-loop
     μ-loop
     loop-holds
-    mul-double-at
-    add-double-at
-    double-at-requires
-    mul-x
-    array-write-x
-    add-i
-    loop-less
+    (λ c. search needs) (λ c. search needs) (λ c κs. search needs)
+    (λ c. search needs) (λ c. search needs) (λ c. search needs) (λ c. search needs)
     loop-again
     returns)

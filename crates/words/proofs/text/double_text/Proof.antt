@@ -27,23 +27,11 @@ sixteen n r h f = go (r - 16) refl-or
         let p : 16 ^ 16 ≤ 16 ^ (r - 1) = pow-le-pow-right (omega arith) l in
         absurd (omega (arith, f .2 o, p))
 
-array-write-bytes : tie.Need-array-write-bytes
-array-write-bytes c = search needs
-
-array-write-bytes-2 : tie.Need-array-write-bytes-2
-array-write-bytes-2 c = search needs
-
-array-write-bytes-3 : tie.Need-array-write-bytes-3
-array-write-bytes-3 c = search needs
-
 returns : tie.Need-returns
 returns c = (rw (← nan-test (c .before .args .x), c .if1 .taken), search needs)
 
 float-to-bits-hex : tie.Need-float-to-bits-hex
 float-to-bits-hex c = rw (← nan-test (c .before .args .x), c .if1 .left) tt
-
-hex-requires : tie.Need-hex-requires
-hex-requires c κs = search needs
 
 returns-2 : tie.Need-returns-2
 returns-2 c =
@@ -56,10 +44,8 @@ pub double-text-spec : {M : Type 1} → statement M
 double-text-spec =
     tie.close
     (tie.spec
-    array-write-bytes
-    array-write-bytes-2
-    array-write-bytes-3
+    (λ c. search needs) (λ c. search needs) (λ c. search needs)
     returns
     float-to-bits-hex
-    hex-requires
+    (λ c κs. search needs)
     returns-2)

@@ -20,28 +20,18 @@ returns c = sym (word-past 8 (c .before .before .args .bytes .now) (c .before .b
 loop-holds : tie.Need-loop-holds Inv-loop μ-loop
 loop-holds c = none-read (c .before .before .args .bytes .now) (c .before .before .args .at)
 
-sub-k : tie.Need-sub-k Inv-loop μ-loop
-sub-k c = search needs
-
 mul-value : tie.Need-mul-value Inv-loop μ-loop
 mul-value c = omega (arith, fits (c .before .loop .inv) (c .loop-test .taken))
-
-add-byte-at : tie.Need-add-byte-at Inv-loop μ-loop
-add-byte-at c = search needs
-
-byte-at-requires : tie.Need-byte-at-requires Inv-loop μ-loop
-byte-at-requires c κs = search needs
 
 add-value : tie.Need-add-value Inv-loop μ-loop
 add-value c = omega (arith, fits (c .before .before .loop .inv) (c .before .loop-test .taken), c .byte-at .ensures .1)
 
-loop-less : tie.Need-loop-less Inv-loop μ-loop
-loop-less c = search needs
-
 loop-again : tie.Need-loop-again Inv-loop μ-loop
 loop-again c =
+    let a = c .before .before .before .before .before .args in
     let l = c .before .before .loop in
-    byte-read (c .before .before .before .before .before .args .bytes .now) (c .before .before .before .before .before .args .at) (l .value) (l .k) (c .byte-at .result) (l .inv) (c .before .loop-test .taken) (c .byte-at .ensures .0) (c .byte-at .ensures .1)
+    let b = c .byte-at in
+    byte-read (a .bytes .now) (a .at) (l .value) (l .k) (b .result) (l .inv) (c .before .loop-test .taken) (b .ensures .0) (b .ensures .1)
 
 returns-2 : tie.Need-returns-2 Inv-loop μ-loop
 returns-2 c =
@@ -57,11 +47,10 @@ word-at-spec =
     μ-loop
     returns
     loop-holds
-    sub-k
+    (λ c. search needs)
     mul-value
-    add-byte-at
-    byte-at-requires
+    (λ c. search needs) (λ c κs. search needs)
     add-value
-    loop-less
+    (λ c. search needs)
     loop-again
     returns-2)
