@@ -1,3 +1,4 @@
+-- Whole runs in code, and demand 3 of them; what follows is in Laws.
 pub mod Points
 pub mod Whole
 pub mod Runs

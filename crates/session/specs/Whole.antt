@@ -16,7 +16,8 @@ pub record Session (S : Type 0) : Type 0 where
   pub stream : S
 
 -- "Each insert, and the cluster at the end, gets the stream that the call before it gave back, refused or not": 0 or its refusal's number for each insert
-unfoldable pub sessionOf : {S : Type 0} (insert : S → List Float → Outcome S) (cluster : S → S) → Opened S → (points : List (List Float)) → (lent : List ℕ) → Session S
+unfoldable pub sessionOf :
+    {S : Type 0} (insert : S → List Float → Outcome S) (cluster : S → S) → Opened S → (points : List (List Float)) → (lent : List ℕ) → Session S
 sessionOf insert cluster o points lent =
     let due : List ℕ = map insertionNumber (answersOf insert (o .stream) points) in
     firstNo

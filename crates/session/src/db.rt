@@ -24,7 +24,9 @@ pub struct DbSession {
 fn inserts(stream: DbStream, values: &[f64], lengths: &[usize], numbers: &mut [u64]) -> DbStream
     requires { ⌜ length (now lengths) ≤ length (now numbers) ⌝ }
     ensures { λ r. ⌜ view r ≡ runOf insertOf (view stream) (pointsOf (now (lengths .entry)) (now (values .entry))) ⌝ }
-    ensures { λ r. ⌜ now (numbers .exit) ≡ map insertionNumber (answersOf insertOf (view stream) (pointsOf (now (lengths .entry)) (now (values .entry)))) ++ drop (length (now (lengths .entry))) (now (numbers .entry)) ⌝ }
+    ensures { λ r. ⌜ now (numbers .exit)
+        ≡ map insertionNumber (answersOf insertOf (view stream) (pointsOf (now (lengths .entry)) (now (values .entry))))
+        ++ drop (length (now (lengths .entry))) (now (numbers .entry)) ⌝ }
 {
     let mut s = stream;
     let mut at: usize = 0;

@@ -34,7 +34,9 @@ module _ {S : Type 0} (insert : S → List Float → Outcome S) (lengths : List 
     pub within : at ≤ length values
     pub few : i ≤ length lengths
     pub runs : runOf insert s (left lengths values i at) ≡ runOf insert s₀ (pointsOf lengths values)
-    pub told : take i numbers ++ map insertionNumber (answersOf insert s (left lengths values i at)) ≡ map insertionNumber (answersOf insert s₀ (pointsOf lengths values))
+    pub told :
+        take i numbers ++ map insertionNumber (answersOf insert s (left lengths values i at))
+        ≡ map insertionNumber (answersOf insert s₀ (pointsOf lengths values))
     pub beyond : drop (length lengths) numbers ≡ drop (length lengths) numbers₀
     pub places : length numbers ≡ length numbers₀
 
@@ -47,15 +49,20 @@ module _ {S : Type 0} (insert : S → List Float → Outcome S) (lengths : List 
       let n = getD lengths i 0 in
       let l : length (drop at values) ≡ length values - at = length-drop at values in
       let c : end - at ≡ min n (length values - at) = omega arith in
-      let t : take (end - at) (drop at values) ≡ take n (drop at values) = ap (λ (k : ℕ). take k (drop at values)) c ∙ take-min n (length values - at) (drop at values) l in
+      let t : take (end - at) (drop at values) ≡ take n (drop at values) =
+      ap (λ (k : ℕ). take k (drop at values)) c ∙ take-min n (length values - at) (drop at values) l
+      in
       let d : drop n (drop at values) ≡ drop end values = drop-drop n at values ∙ sym (drop-min (at + n) values) ∙ ap (λ (k : ℕ). drop k values) (sym e) in
       let b : length lengths ≤ length lengths = omega arith in
-      ap (λ (r : List ℕ). pointsOf r (drop at values)) (rest-step (length lengths) i lengths 0 h b) ∙ ap₂ (λ (x : List Float) (v : List Float). x ∷ pointsOf (rest (length lengths) (i + 1) lengths) v) (sym t) d
+      ap (λ (r : List ℕ). pointsOf r (drop at values)) (rest-step (length lengths) i lengths 0 h b)
+      ∙ ap₂ (λ (x v : List Float). x ∷ pointsOf (rest (length lengths) (i + 1) lengths) v) (sym t) d
 
   pub going-start : (s : S) (numbers : List ℕ) → Going s s numbers numbers 0 0
   unfolding pointsOf
   going-start s numbers =
-      let e : left lengths values 0 0 ≡ pointsOf lengths values = ap (λ (l : List ℕ). pointsOf l values) (rest-start (length lengths) lengths ∙ take-length lengths) in
+      let e : left lengths values 0 0 ≡ pointsOf lengths values =
+      ap (λ (l : List ℕ). pointsOf l values) (rest-start (length lengths) lengths ∙ take-length lengths)
+      in
       record {
         within = omega arith;
         few = omega arith;
@@ -83,20 +90,29 @@ module _ {S : Type 0} (insert : S → List Float → Outcome S) (lengths : List 
         places = length-set numbers i _ ∙ g .places;
       }
 
-  -- the same, of a stream and a number that are those of the insert
+  -- the same, of an outcome that is the insert's, and its number
   pub going-on :
-      (s₀ s next : S) (numbers₀ numbers : List ℕ) (i at end v : ℕ) → Going s₀ s numbers₀ numbers i at → i < length lengths → i < length numbers →
+      (s₀ s : S) (next : Outcome S) (numbers₀ numbers : List ℕ) (i at end v : ℕ) →
+      Going s₀ s numbers₀ numbers i at → i < length lengths → length lengths ≤ length numbers₀ →
       end ≡ min (at + getD lengths i 0) (length values) →
-      next ≡ insert s (take (end - at) (drop at values)) .stream → v ≡ insertionNumber (insert s (take (end - at) (drop at values)) .answer) →
-      Going s₀ next numbers₀ (set numbers i v) (i + 1) end
-  going-on s₀ s next numbers₀ numbers i at end v g h k e es ev = rw (es, ev) (going-step s₀ s numbers₀ numbers i at end g h k e)
+      next ≡ insert s (take (end - at) (drop at values)) → v ≡ insertionNumber (next .answer) →
+      Going s₀ (next .stream) numbers₀ (set numbers i v) (i + 1) end
+  going-on s₀ s next numbers₀ numbers i at end v g h k e is number =
+      rw (number, is) (going-step s₀ s numbers₀ numbers i at end g h (omega (arith, g .places)) e)
 
-  pub going-end : (s₀ s : S) (numbers₀ numbers : List ℕ) (i at : ℕ) → Going s₀ s numbers₀ numbers i at → length lengths ≤ i → (s ≡ runOf insert s₀ (pointsOf lengths values)) × (numbers ≡ map insertionNumber (answersOf insert s₀ (pointsOf lengths values)) ++ drop (length lengths) numbers₀)
+  pub going-end :
+      (s₀ s : S) (numbers₀ numbers : List ℕ) (i at : ℕ) → Going s₀ s numbers₀ numbers i at → length lengths ≤ i →
+      (s ≡ runOf insert s₀ (pointsOf lengths values))
+      × (numbers ≡ map insertionNumber (answersOf insert s₀ (pointsOf lengths values)) ++ drop (length lengths) numbers₀)
   unfolding runOf answersOf pointsOf
   going-end s₀ s numbers₀ numbers i at g h =
       let n : i ≡ length lengths = omega (arith, g .few) in
       let e : left lengths values i at ≡ [] = ap (λ (r : List ℕ). pointsOf r (drop at values)) (rest-end (length lengths) i lengths h) in
-      let a : take i numbers ≡ map insertionNumber (answersOf insert s₀ (pointsOf lengths values)) = sym (append-nil (take i numbers)) ∙ sym (ap (λ (l : List (List Float)). take i numbers ++ map insertionNumber (answersOf insert s l)) e) ∙ g .told in (
+      let a : take i numbers ≡ map insertionNumber (answersOf insert s₀ (pointsOf lengths values)) =
+      sym (append-nil (take i numbers))
+      ∙ sym (ap (λ (l : List (List Float)). take i numbers ++ map insertionNumber (answersOf insert s l)) e)
+      ∙ g .told
+      in (
         sym (ap (runOf insert s) e) ∙ g .runs,
         sym (take-append-drop i numbers) ∙ ap₂ (λ (x y : List ℕ). x ++ y) a (ap (λ (k : ℕ). drop k numbers) n ∙ g .beyond),
       )
