@@ -1,1 +1,2 @@
+-- The text of `families` from the bytes of its input.
 pub mod Families

@@ -2,32 +2,12 @@
 use mathlib.Core.Path.{_≡_, refl, sym, _∙_}
 use lib.IntN.{negsuc}
 use lib.ListN.{length, replicate, length-map}
+use Rattle.model.specs.Limits.{microsMost}
 use Rattle.dbstream.specs.View.{view}
 use Rattle.families_text.proofs.Clustered.{ids-are, text-is}
 use borrow.Author.Needs.{needs}
 use Rattle.families_text.proofs.clustered_text.Statement.{statement}
 use Rattle.families_text.proofs.clustered_text.Tie as tie
-
-cluster-requires : tie.Need-cluster-requires
-cluster-requires c κs = search needs
-
-micro-count-requires : tie.Need-micro-count-requires
-micro-count-requires c κs = search needs
-
-ids-of-requires : tie.Need-ids-of-requires
-ids-of-requires c κs = search needs
-
-slice-aggregate-labels : tie.Need-slice-aggregate-labels
-slice-aggregate-labels c = search needs
-
-labels-requires : tie.Need-labels-requires
-labels-requires c κs = search needs
-
-drift-requires : tie.Need-drift-requires
-drift-requires c κs = search needs
-
-listing-requires : tie.Need-listing-requires
-listing-requires c κs = search needs
 
 returns : tie.Need-returns
 returns c =
@@ -37,20 +17,25 @@ returns c =
     let ids = c .before .before .before .before .before .ids-of in
     let labels = c .before .before .before .labels2 in
     let report = c .before .drift in
-    let places : length (u .result .micros) ≡ 64 = sym (length-map (u .result .micros) _) ∙ u .ok .1 .1 .1 .1 .1 .0 .1 .0 .1 in
+    let places : length (u .result .micros) ≡ microsMost = sym (length-map (u .result .micros) _) ∙ u .ok .1 .1 .1 .1 .1 .0 .1 .0 .1 in
     c .listing .ensures
-    ∙ text-is (view (s .stream)) (view (u .result)) (n .result) (ids .result) (labels .result) (labels .last .1 .0) (replicate 64 (negsuc 0)) (report .result) (search needs) refl (u .ensures)
-    (record { count = n .ensures; names = ids-are (u .result) (n .result) (ids .result) (n .ensures) places (ids .ensures); told = labels .ensures; drift = report .ensures })
+    ∙ text-is (view (s .stream)) (view (u .result)) (n .result) (ids .result) (labels .result) (labels .last .1 .0) (replicate microsMost (negsuc 0))
+    (report .result) (search needs) refl (u .ensures)
+    (record {
+      count = n .ensures;
+      names = ids-are (u .result) (n .result) (ids .result) (n .ensures) places (ids .ensures);
+      told = labels .ensures;
+      drift = report .ensures;
+    })
 
 pub clustered-text-spec : {M : Type 1} → statement M
 clustered-text-spec =
     tie.close
     (tie.spec
-    cluster-requires
-    micro-count-requires
-    ids-of-requires
-    slice-aggregate-labels
-    labels-requires
-    drift-requires
-    listing-requires
+    (λ c κs. search needs)
+    (λ c κs. search needs)
+    (λ c κs. search needs)
+    (λ c. search needs) (λ c κs. search needs)
+    (λ c κs. search needs)
+    (λ c κs. search needs)
     returns)

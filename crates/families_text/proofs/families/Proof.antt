@@ -7,15 +7,6 @@ use Rattle.text.specs.Lent.{writeOf}
 use Rattle.families_text.proofs.families.Statement.{statement}
 use Rattle.families_text.proofs.families.Tie as tie
 
-text-of-requires : tie.Need-text-of-requires
-text-of-requires c κs = search needs
-
-write-requires : tie.Need-write-requires
-write-requires c κs = search needs
-
-same-length : tie.Need-same-length
-same-length c = search needs
-
 returns : tie.Need-returns
 returns c =
     let lent = c .before .before .before .before .before .before .before .args .output .now in
@@ -24,4 +15,5 @@ returns c =
     w ∙ ap (λ (text : List ℕ). writeOf text lent) e
 
 pub families-spec : {M : Type 1} → statement M
-families-spec = tie.close (tie.spec text-of-requires write-requires same-length returns)
+families-spec =
+    tie.close (tie.spec (λ c κs. search needs) (λ c κs. search needs) (λ c. search needs) returns)
