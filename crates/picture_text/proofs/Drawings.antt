@@ -6,6 +6,7 @@ use lib.IntN.{negsuc}
 use lib.ListN.{length, replicate}
 use Rattle.drift.specs.declared.DriftReport.{DriftReport}
 use Rattle.drift.specs.Monitor.{reportOf}
+use Rattle.model.specs.Limits.{microsMost}
 use Rattle.model.specs.ReadOut.{LabelsRead, Statistics}
 use Rattle.model.specs.DbState.{State}
 use Rattle.model.specs.Dbstream.{clusterOf, labelsReadOf}
@@ -13,16 +14,16 @@ use Rattle.picture_lines.specs.Picture.{pageOf}
 use Rattle.picture_text.specs.Picture.{figuresOf, drawnOf}
 
 abbrev page : ℕ → Statistics → LabelsRead → DriftReport → List ℕ
-page n figures labels report = pageOf (min n 64) (figures .centres) (figures .weights) (labels .labels) (report .alarms)
+page n figures labels report = pageOf (min n microsMost) (figures .centres) (figures .weights) (labels .labels) (report .alarms)
 
 abbrev read : State → LabelsRead
-read s = labelsReadOf s (replicate 64 (negsuc 0))
+read s = labelsReadOf s (replicate microsMost (negsuc 0))
 
 pub drawing :
     (s u : State) (n : ℕ) (figures : Statistics) (labels : LabelsRead) (report : DriftReport) → u ≡ clusterOf s → n ≡ length (u .held .micros) →
     figures ≡ figuresOf u →
-    labels ≡ labelsReadOf u (replicate 64 (negsuc 0)) → report ≡ reportOf (u .drift) →
-    pageOf (min n 64) (figures .centres) (figures .weights) (labels .labels) (report .alarms) ≡ drawnOf s
+    labels ≡ labelsReadOf u (replicate microsMost (negsuc 0)) → report ≡ reportOf (u .drift) →
+    pageOf (min n microsMost) (figures .centres) (figures .weights) (labels .labels) (report .alarms) ≡ drawnOf s
 unfolding drawnOf
 drawing s u n figures labels report e count stats told drift =
     ap (λ (k : ℕ). page k figures labels report) count

@@ -7,6 +7,7 @@ use lib.IntN.{negsuc}
 use lib.ListN.{length, replicate}
 use Rattle.float.specs.Rounded.{nought}
 use Rattle.drift.specs.Monitor.{reportOf}
+use Rattle.model.specs.Limits.{microsMost}
 use Rattle.model.specs.ReadOut.{Statistics}
 use Rattle.model.specs.DbState.{State}
 use Rattle.model.specs.Dbstream.{clusterOf, labelsReadOf, statisticsOf}
@@ -15,15 +16,15 @@ use Rattle.text.specs.Refusal.{refusedLine}
 use Rattle.input_session.specs.Session.{Ran, ranOf}
 use Rattle.picture_lines.specs.Picture.{pageOf}
 
--- the statistics, read into 64 places
+-- the statistics, read into as many places as micro-clusters can be held, three for each centre
 abbrev pub figuresOf : State → Statistics
-figuresOf s = statisticsOf s (replicate 192 nought) (replicate 64 nought) (replicate 64 nought)
+figuresOf s = statisticsOf s (replicate 192 nought) (replicate microsMost nought) (replicate microsMost nought)
 
 -- the families after cluster, their figures, and the alarms
 unfoldable pub drawnOf : State → List ℕ
 drawnOf s =
-    pageOf (min (length (s .held .micros)) 64) (figuresOf (clusterOf s) .centres) (figuresOf (clusterOf s) .weights)
-    (labelsReadOf (clusterOf s) (replicate 64 (negsuc 0)) .labels)
+    pageOf (min (length (s .held .micros)) microsMost) (figuresOf (clusterOf s) .centres) (figuresOf (clusterOf s) .weights)
+    (labelsReadOf (clusterOf s) (replicate microsMost (negsuc 0)) .labels)
     (reportOf (s .drift) .alarms)
 
 -- three figures a reading, or no picture

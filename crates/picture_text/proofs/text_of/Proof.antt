@@ -13,57 +13,39 @@ use Rattle.picture_text.proofs.Texts.{refused, other-dim, three}
 use Rattle.picture_text.proofs.text_of.Statement.{statement}
 use Rattle.picture_text.proofs.text_of.Tie as tie
 
-session-of-requires : tie.Need-session-of-requires
-session-of-requires c κs = search needs
-
-refused-requires : tie.Need-refused-requires
-refused-requires c κs = search needs
-
 returns : tie.Need-returns
 returns c =
     let s = c .before .before .«session-of» in
     c .refused .ensures ∙ refused (c .before .before .before .before .args .input .now) (ranTold (s .result)) (s .ensures) (c .before .if1 .taken)
 
-dim-requires : tie.Need-dim-requires
-dim-requires c κs = search needs
-
-blank-requires : tie.Need-blank-requires
-blank-requires c κs = search needs
-
-slice-aggregate-add : tie.Need-slice-aggregate-add
-slice-aggregate-add c = search needs
-
-add-requires : tie.Need-add-requires
-add-requires c κs = search needs
-
 returns-2 : tie.Need-returns-2
 returns-2 c =
-    let s = c .before .before .before .before .before .before .before .«session-of» in
+    let if2 = c .before .before .before in
+    let if1 = if2 .before .before .before in
+    let s = if1 .before .«session-of» in
+    let input = if1 .before .before .before .args .input .now in
     from-blank (c .before .before .blank .ensures .0) (c .add .ensures) (omega arith)
-    ∙ other-dim (c .before .before .before .before .before .before .before .before .before .args .input .now) (ranTold (s .result)) (s .ensures) (c .before .before .before .before .before .before .if1 .left) (λ d. c .before .before .before .if2 .taken (c .before .before .before .before .dim .ensures ∙ d))
-
-drawn-requires : tie.Need-drawn-requires
-drawn-requires c κs = search needs
+    ∙ other-dim input (ranTold (s .result)) (s .ensures) (if1 .if1 .left) (λ d. if2 .if2 .taken (if2 .before .dim .ensures ∙ d))
 
 returns-3 : tie.Need-returns-3
 returns-3 c =
     let s = c .before .before .before .before .before .«session-of» in
     let input = c .before .before .before .before .before .before .before .args .input .now in
+    let dim = sym (c .before .before .dim .ensures) ∙ c .before .if2 .left in
     c .drawn .ensures
-    ∙ ap (take room) (three input (ranTold (s .result)) (s .ensures) (c .before .before .before .before .if1 .left) (sym (c .before .before .dim .ensures) ∙ c .before .if2 .left))
+    ∙ ap (take room) (three input (ranTold (s .result)) (s .ensures) (c .before .before .before .before .if1 .left) dim)
     ∙ take-all room (pictureText input) (never-cut input .is)
 
 pub text-of-spec : {M : Type 1} → statement M
 text-of-spec =
     tie.close
     (tie.spec
-    session-of-requires
-    refused-requires
+    (λ c κs. search needs)
+    (λ c κs. search needs)
     returns
-    dim-requires
-    blank-requires
-    slice-aggregate-add
-    add-requires
+    (λ c κs. search needs)
+    (λ c κs. search needs)
+    (λ c. search needs) (λ c κs. search needs)
     returns-2
-    drawn-requires
+    (λ c κs. search needs)
     returns-3)

@@ -18,6 +18,7 @@ use Rattle.model.specs.declared.answers.Insertion.{Insertion}
 use Rattle.model.specs.declared.answers.Insertion.the-variants.{Done, Shape, ClockAtLimit, NoPlace}
 use Rattle.model.specs.Answers.{openingNumber, isOpen, insertionNumber, isDone}
 use Rattle.model.specs.Outcome.{Opened, Outcome}
+use Rattle.model.specs.Limits.{microsMost}
 use Rattle.model.specs.Stream.{tickOf, takenOf, fresh, insertBy}
 use Rattle.model.specs.DbState.{State, Settings}
 use Rattle.model.specs.Dbstream.{dbstream, openOf, insertOf, clusterOf, labelsReadOf}
@@ -95,9 +96,9 @@ numbered bytes =
 drawn-within : (s : State) → Counted s → Within (drawnOf s) room
 unfolding drawnOf
 drawn-within s h =
-    let few : min (length (s .held .micros)) 64 ≤ 64 = omega arith in
-    page-within (min (length (s .held .micros)) 64) (figuresOf (clusterOf s) .centres) (figuresOf (clusterOf s) .weights)
-    (labelsReadOf (clusterOf s) (replicate 64 (negsuc 0)) .labels)
+    let few : min (length (s .held .micros)) microsMost ≤ microsMost = omega arith in
+    page-within (min (length (s .held .micros)) microsMost) (figuresOf (clusterOf s) .centres) (figuresOf (clusterOf s) .weights)
+    (labelsReadOf (clusterOf s) (replicate microsMost (negsuc 0)) .labels)
     (reportOf (s .drift) .alarms) few h
 
 -- the whole text of every input finds room
