@@ -22,8 +22,7 @@ each-size : (p : Phase) (n : ℕ) → length (each (readingBytes p) n) ≡ 24 * 
 unfolding each
 each-size p zero = refl
 each-size p (suc n) =
-    let e : length (each (readingBytes p) n ++ readingBytes p n) ≡ length (each (readingBytes p) n) + length (readingBytes p n) = length-append (each (readingBytes p) n) (readingBytes p n) in
-    omega (arith, e, each-size p n, reading-size p n)
+    omega (arith, length-append (each (readingBytes p) n) (readingBytes p n), each-size p n, reading-size p n)
 
 pub record Long (l : List ℕ) (n : ℕ) : Type 0 where
   pub is : length l ≡ n

@@ -1,1 +1,2 @@
+-- The made-up session of `sample`.
 pub mod Sample

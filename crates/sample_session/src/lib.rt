@@ -19,6 +19,7 @@ pub struct Phase {
     pub walk: u32,
 }
 
+// A phase by its figures, in their order.
 fn phase_of(
     count: u32,
     gain: u32,
@@ -90,6 +91,7 @@ fn add_reading(text: Text, p: Phase, i: u32) -> Text
     add_double(swung, beat_error)
 }
 
+// The readings of a phase.
 fn add_phase(text: Text, p: Phase) -> Text
     ensures { λ r. ⌜ Added text (phaseBytes p) r ⌝ }
 {
@@ -113,6 +115,7 @@ fn add_settings(text: Text) -> Text
     add_word(alpha, 0x4018_0000_0000_0000)
 }
 
+// The settings and every phase.
 fn sample() -> Text
     ensures { λ r. ⌜ textOf r ≡ sampleBytes ⌝ }
 {

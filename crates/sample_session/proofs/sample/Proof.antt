@@ -1,101 +1,54 @@
 -- `sample` meets its contract. Assumes nothing.
-use mathlib.Core.Path.{ap}
+use Prim.Native.Nat.{ℕ}
+use mathlib.Core.Path.{_≡_, ap}
+use mathlib.Core.List.{List, _++_}
 use native.Mathlib.Omega.{arith}
 use borrow.Author.Needs.{needs}
+use Rattle.text.specs.declared.text.Text.{Text}
+use Rattle.text.specs.Text.{Added}
 use Rattle.text.specs.Laws.Pieces.{both, worded, from-blank}
-use Rattle.sample_session.specs.Sample.{phaseBytes, sampleBytes}
+use Rattle.sample_session.specs.declared.Phase.{Phase}
+use Rattle.sample_session.specs.Sample.{phaseOf, phaseBytes, sampleBytes}
 use Rattle.sample_session.proofs.Sizes.{size}
 use Rattle.sample_session.proofs.sample.Statement.{statement}
 use Rattle.sample_session.proofs.sample.Tie as tie
 
-blank-requires : tie.Need-blank-requires
-blank-requires c κs = search needs
-
-add-settings-requires : tie.Need-add-settings-requires
-add-settings-requires c κs = search needs
-
-phase-of-requires : tie.Need-phase-of-requires
-phase-of-requires c κs = search needs
-
-add-phase-requires : tie.Need-add-phase-requires
-add-phase-requires c κs = search needs
-
-phase-of-requires-2 : tie.Need-phase-of-requires-2
-phase-of-requires-2 c κs = search needs
-
-add-phase-requires-2 : tie.Need-add-phase-requires-2
-add-phase-requires-2 c κs = search needs
-
-phase-of-requires-3 : tie.Need-phase-of-requires-3
-phase-of-requires-3 c κs = search needs
-
-add-phase-requires-3 : tie.Need-add-phase-requires-3
-add-phase-requires-3 c κs = search needs
-
-phase-of-requires-4 : tie.Need-phase-of-requires-4
-phase-of-requires-4 c κs = search needs
-
-add-phase-requires-4 : tie.Need-add-phase-requires-4
-add-phase-requires-4 c κs = search needs
-
-phase-of-requires-5 : tie.Need-phase-of-requires-5
-phase-of-requires-5 c κs = search needs
-
-add-phase-requires-5 : tie.Need-add-phase-requires-5
-add-phase-requires-5 c κs = search needs
-
-phase-of-requires-6 : tie.Need-phase-of-requires-6
-phase-of-requires-6 c κs = search needs
-
-add-phase-requires-6 : tie.Need-add-phase-requires-6
-add-phase-requires-6 c κs = search needs
-
-phase-of-requires-7 : tie.Need-phase-of-requires-7
-phase-of-requires-7 c κs = search needs
-
-add-phase-requires-7 : tie.Need-add-phase-requires-7
-add-phase-requires-7 c κs = search needs
-
-phase-of-requires-8 : tie.Need-phase-of-requires-8
-phase-of-requires-8 c κs = search needs
-
-add-phase-requires-8 : tie.Need-add-phase-requires-8
-add-phase-requires-8 c κs = search needs
+-- one phase more
+phase-more : {t u v : Text} {l : List ℕ} {q : Phase} (p : Phase) → Added t l u → q ≡ p → Added u (phaseBytes q) v → Added t (l ++ phaseBytes p) v
+phase-more p a e b = both a (worded (ap phaseBytes e) b)
 
 returns : tie.Need-returns
 unfolding sampleBytes
 returns c =
-    let settings = c .before .before .before .before .before .before .before .before .before .before .before .before .before .before .before .before .«add-settings» .ensures in
-    let p1 = both settings (worded (ap phaseBytes (c .before .before .before .before .before .before .before .before .before .before .before .before .before .before .before .«phase-of» .ensures)) (c .before .before .before .before .before .before .before .before .before .before .before .before .before .before .«add-phase» .ensures)) in
-    let p2 = both p1 (worded (ap phaseBytes (c .before .before .before .before .before .before .before .before .before .before .before .before .before .«phase-of2» .ensures)) (c .before .before .before .before .before .before .before .before .before .before .before .before .«add-phase2» .ensures)) in
-    let p3 = both p2 (worded (ap phaseBytes (c .before .before .before .before .before .before .before .before .before .before .before .«phase-of3» .ensures)) (c .before .before .before .before .before .before .before .before .before .before .«add-phase3» .ensures)) in
-    let p4 = both p3 (worded (ap phaseBytes (c .before .before .before .before .before .before .before .before .before .«phase-of4» .ensures)) (c .before .before .before .before .before .before .before .before .«add-phase4» .ensures)) in
-    let p5 = both p4 (worded (ap phaseBytes (c .before .before .before .before .before .before .before .«phase-of5» .ensures)) (c .before .before .before .before .before .before .«add-phase5» .ensures)) in
-    let p6 = both p5 (worded (ap phaseBytes (c .before .before .before .before .before .«phase-of6» .ensures)) (c .before .before .before .before .«add-phase6» .ensures)) in
-    let p7 = both p6 (worded (ap phaseBytes (c .before .before .before .«phase-of7» .ensures)) (c .before .before .«add-phase7» .ensures)) in
-    let p8 = both p7 (worded (ap phaseBytes (c .before .«phase-of8» .ensures)) (c .«add-phase8» .ensures)) in
-    from-blank {p = sampleBytes} (c .before .before .before .before .before .before .before .before .before .before .before .before .before .before .before .before .before .blank .ensures .0) p8 (omega (arith, size .is))
+    let strays = c .before .before in
+    let stray = strays .before .before in
+    let dry = stray .before .before in
+    let between = dry .before .before in
+    let faster = between .before .before in
+    let slower = faster .before .before in
+    let sound = slower .before .before in
+    let settings = sound .before .before in
+    let p1 = phase-more (phaseOf 96 4 0 285 2 2 0) (settings .«add-settings» .ensures) (sound .before .«phase-of» .ensures) (sound .«add-phase» .ensures) in
+    let p2 = phase-more (phaseOf 32 0 28 215 15 2 0) p1 (slower .before .«phase-of2» .ensures) (slower .«add-phase2» .ensures) in
+    let p3 = phase-more (phaseOf 32 0 16 215 15 2 0) p2 (faster .before .«phase-of3» .ensures) (faster .«add-phase3» .ensures) in
+    let p4 = phase-more (phaseOf 32 0 22 215 15 2 0) p3 (between .before .«phase-of4» .ensures) (between .«add-phase4» .ensures) in
+    let p5 = phase-more (phaseOf 64 35 0 190 30 2 0) p4 (dry .before .«phase-of5» .ensures) (dry .«add-phase5» .ensures) in
+    let p6 = phase-more (phaseOf 1 0 44 225 9 0 0) p5 (stray .before .«phase-of6» .ensures) (stray .«add-phase6» .ensures) in
+    let p7 = phase-more (phaseOf 1 18 0 200 24 0 0) p6 (strays .before .«phase-of7» .ensures) (strays .«add-phase7» .ensures) in
+    let p8 = phase-more (phaseOf 96 4 0 285 2 8 3) p7 (c .before .«phase-of8» .ensures) (c .«add-phase8» .ensures) in
+    from-blank {p = sampleBytes} (settings .before .blank .ensures .0) p8 (omega (arith, size .is))
 
 pub sample-spec : {M : Type 1} → statement M
 sample-spec =
     tie.close
     (tie.spec
-    blank-requires
-    add-settings-requires
-    phase-of-requires
-    add-phase-requires
-    phase-of-requires-2
-    add-phase-requires-2
-    phase-of-requires-3
-    add-phase-requires-3
-    phase-of-requires-4
-    add-phase-requires-4
-    phase-of-requires-5
-    add-phase-requires-5
-    phase-of-requires-6
-    add-phase-requires-6
-    phase-of-requires-7
-    add-phase-requires-7
-    phase-of-requires-8
-    add-phase-requires-8
+    (λ c κs. search needs) (λ c κs. search needs)
+    (λ c κs. search needs) (λ c κs. search needs)
+    (λ c κs. search needs) (λ c κs. search needs)
+    (λ c κs. search needs) (λ c κs. search needs)
+    (λ c κs. search needs) (λ c κs. search needs)
+    (λ c κs. search needs) (λ c κs. search needs)
+    (λ c κs. search needs) (λ c κs. search needs)
+    (λ c κs. search needs) (λ c κs. search needs)
+    (λ c κs. search needs) (λ c κs. search needs)
     returns)

@@ -7,15 +7,6 @@ use Rattle.text.specs.Lent.{writeOf}
 use Rattle.sample_session.proofs.session.Statement.{statement}
 use Rattle.sample_session.proofs.session.Tie as tie
 
-sample-requires : tie.Need-sample-requires
-sample-requires c κs = search needs
-
-write-requires : tie.Need-write-requires
-write-requires c κs = search needs
-
-same-length : tie.Need-same-length
-same-length c = search needs
-
 returns : tie.Need-returns
 returns c =
     let lent = c .before .before .before .before .before .before .args .output .now in
@@ -24,4 +15,5 @@ returns c =
     w ∙ ap (λ (text : List ℕ). writeOf text lent) e
 
 pub session-spec : {M : Type 1} → statement M
-session-spec = tie.close (tie.spec sample-requires write-requires same-length returns)
+session-spec =
+    tie.close (tie.spec (λ c κs. search needs) (λ c κs. search needs) (λ c. search needs) returns)
