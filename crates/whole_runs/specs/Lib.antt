@@ -1,3 +1,4 @@
+-- Whole runs in plain numbers; what follows is in Laws.
 pub mod Told
 pub mod Streams
 pub mod Window

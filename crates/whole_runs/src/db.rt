@@ -9,6 +9,7 @@ ghost use Rattle.session.specs.Points.{pointsOf};
 ghost use Rattle.whole_runs.specs.Told.{iterate, told};
 ghost use Rattle.whole_runs.specs.Streams.{dbstreamFigures, dbstreamRun};
 
+// Clustered so many times more.
 fn clustered(stream: DbStream, rounds: u64) -> DbStream
     ensures { λ r. ⌜ view r ≡ iterate clusterOf rounds (view stream) ⌝ }
 {
@@ -21,6 +22,7 @@ fn clustered(stream: DbStream, rounds: u64) -> DbStream
     s
 }
 
+// What the stream says of itself.
 fn figures_of(number: u64, stream: DbStream) -> Figures
     ensures { λ r. ⌜ r ≡ dbstreamFigures number (view stream) ⌝ }
 {

@@ -9,6 +9,7 @@ ghost use Rattle.session.specs.Points.{pointsOf};
 ghost use Rattle.whole_runs.specs.Told.{iterate, told};
 ghost use Rattle.whole_runs.specs.Streams.{denstreamFigures, denstreamRun};
 
+// Clustered so many times more.
 fn clustered(stream: DenStream, rounds: u64) -> DenStream
     ensures { λ r. ⌜ view r ≡ iterate clusterOf rounds (view stream) ⌝ }
 {
@@ -21,6 +22,7 @@ fn clustered(stream: DenStream, rounds: u64) -> DenStream
     s
 }
 
+// What the stream says of itself.
 fn figures_of(number: u64, stream: DenStream) -> Figures
     ensures { λ r. ⌜ r ≡ denstreamFigures number (view stream) ⌝ }
 {

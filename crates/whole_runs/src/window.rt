@@ -16,6 +16,7 @@ pub struct WindowFigures {
     pub variance: f64,
 }
 
+// 1 for an update that rang.
 fn ring(answer: Verdict) -> u64
     ensures { λ r. ⌜ r ≡ cond (rings answer) 1 0 ⌝ }
 {

@@ -1,22 +1,23 @@
 -- A stream's run in steps: clustered again and again, then read out. Assumes nothing.
 use Prim.Native.Nat.{ℕ, zero, suc, _-_, _≤_, _<_}
 use native.Mathlib.Omega.{arith}
-use mathlib.Core.Path.{_≡_, refl, ap, _∙_}
+use mathlib.Core.Path.{_≡_, ap, _∙_}
 use Rattle.drift.specs.declared.DriftReport.{DriftReport}
 use Rattle.session.specs.Whole.{Session}
 use Rattle.whole_runs.specs.declared.figures.Figures.{Figures}
 use Rattle.whole_runs.specs.Told.{iterate, figures, told}
 
--- a loop that counts down to 0: one turn, and its end
-pub iterate-next : {A : Type 0} (f : A → A) (n : ℕ) (a b : A) → 0 < n → b ≡ f a → iterate f (n - 1) b ≡ iterate f n a
+-- a loop that counts down to 0, towards `whole`: one turn, and its end
+pub iterate-next :
+    {A : Type 0} (f : A → A) (n : ℕ) (a b : A) {whole : A} → 0 < n → b ≡ f a → iterate f n a ≡ whole → iterate f (n - 1) b ≡ whole
 unfolding iterate
-iterate-next f zero a b h e = absurd (omega arith)
-iterate-next f (suc n) a b h e = let m : suc n - 1 ≡ n = omega arith in rw (m, e)
+iterate-next f zero a b h e w = absurd (omega arith)
+iterate-next f (suc n) a b h e w = let m : suc n - 1 ≡ n = omega arith in rw (m, e) w
 
-pub iterate-end : {A : Type 0} (f : A → A) (n : ℕ) (a : A) → n ≤ 0 → iterate f n a ≡ a
+pub iterate-end : {A : Type 0} (f : A → A) (n : ℕ) (a : A) {whole : A} → n ≤ 0 → iterate f n a ≡ whole → a ≡ whole
 unfolding iterate
-iterate-end f zero a h = refl
-iterate-end f (suc n) a h = absurd (omega arith)
+iterate-end f zero a h w = w
+iterate-end f (suc n) a h w = absurd (omega arith)
 
 pub same-figures :
     (number micros micros′ families families′ : ℕ) (report report′ : DriftReport) →

@@ -1,5 +1,5 @@
-use native.Mathlib.Omega.{arith}
-use mathlib.Core.Path.{_≡_, refl, sym, _∙_}
+-- `clustered` meets its contract. Assumes nothing.
+use mathlib.Core.Path.{_≡_, refl}
 use Rattle.model.specs.Dbstream.{clusterOf}
 use Rattle.dbstream.specs.View.{view}
 use Rattle.whole_runs.specs.Told.{iterate}
@@ -17,26 +17,22 @@ abbrev μ-loop : tie.MeasureT-loop
 loop-holds : tie.Need-loop-holds Inv-loop μ-loop
 loop-holds c = refl
 
-cluster-requires : tie.Need-cluster-requires Inv-loop μ-loop
-cluster-requires c κs = search needs
-
-sub-left : tie.Need-sub-left Inv-loop μ-loop
-sub-left c = search needs
-
-loop-less : tie.Need-loop-less Inv-loop μ-loop
-loop-less c = search needs
-
 loop-again : tie.Need-loop-again Inv-loop μ-loop
 loop-again c =
     let l = c .before .before .loop in
-    iterate-next clusterOf (l .left) (view (l .s)) _ (omega (arith, c .before .loop-test .taken)) (c .cluster .ensures) ∙ l .inv
+    iterate-next clusterOf (l .left) (view (l .s)) _ (c .before .loop-test .taken) (c .cluster .ensures) (l .inv)
 
 returns : tie.Need-returns Inv-loop μ-loop
-returns c =
-    let l = c .before .loop in
-    sym (iterate-end clusterOf (l .left) (view (l .s)) (omega (arith, c .loop-test .left))) ∙ l .inv
+returns c = let l = c .before .loop in iterate-end clusterOf (l .left) (view (l .s)) (c .loop-test .left) (l .inv)
 
 pub clustered-spec : {M : Type 1} → statement M
 clustered-spec =
     tie.close
-    (tie.spec Inv-loop μ-loop loop-holds cluster-requires sub-left loop-less loop-again returns)
+    (tie.spec
+    Inv-loop
+    μ-loop
+    loop-holds
+    (λ c κs. search needs)
+    (λ c. search needs) (λ c. search needs)
+    loop-again
+    returns)

@@ -1,3 +1,4 @@
+-- `window_run` meets its contract. Assumes nothing.
 use Prim.Native.Nat.{_-_, _≤_}
 use mathlib.Core.Path.{sym, subst, ap, _∙_}
 use mathlib.Core.Bool.{cond}
@@ -15,35 +16,14 @@ Inv-loop delta values w₀ alarms₀ i₀ w alarms i = Going values (newOf delta
 abbrev μ-loop : tie.MeasureT-loop
 μ-loop delta values w₀ alarms₀ i₀ w alarms i = length values - i
 
-new-requires : tie.Need-new-requires Inv-loop μ-loop
-new-requires c κs = search needs
-
 loop-holds : tie.Need-loop-holds Inv-loop μ-loop
 loop-holds c =
     let a = c .before .before .args in
     subst (λ (w : Window). Going (a .values .now) (newOf (a .delta)) w 0 0) (sym (c .new .ensures)) (going-start (a .values .now) (newOf (a .delta)))
 
-mul-update : tie.Need-mul-update Inv-loop μ-loop
-mul-update c = search needs
-
-shared-slice-read-update : tie.Need-shared-slice-read-update Inv-loop μ-loop
-shared-slice-read-update c = search needs
-
-update-requires : tie.Need-update-requires Inv-loop μ-loop
-update-requires c κs = search needs
-
-ring-requires : tie.Need-ring-requires Inv-loop μ-loop
-ring-requires c κs = search needs
-
 add-alarms : tie.Need-add-alarms Inv-loop μ-loop
 add-alarms c =
     let k : c .ring .result ≤ 1 = rw (c .ring .ensures) (one-at-most (rings (c .before .before .update .result .answer))) in search needs
-
-add-i : tie.Need-add-i Inv-loop μ-loop
-add-i c = search needs
-
-loop-less : tie.Need-loop-less Inv-loop μ-loop
-loop-less c = search needs
 
 loop-again : tie.Need-loop-again Inv-loop μ-loop
 loop-again c =
@@ -54,21 +34,13 @@ loop-again c =
     (l .inv) (c .before .before .before .before .loop-test .taken)
     (ap (λ (o : Outcome). o .window) (u .ensures .0)) (c .ring .ensures ∙ ap (λ (o : Outcome). cond (o .alarm) 1 0) (u .ensures .0))
 
-width-requires : tie.Need-width-requires Inv-loop μ-loop
-width-requires c κs = search needs
-
-mean-requires : tie.Need-mean-requires Inv-loop μ-loop
-mean-requires c κs = search needs
-
-variance-requires : tie.Need-variance-requires Inv-loop μ-loop
-variance-requires c κs = search needs
-
 returns : tie.Need-returns Inv-loop μ-loop
 returns c =
     let a = c .before .before .before .before .before .before .before .args in
     let l = c .before .before .before .before .loop in
     let e = going-end (a .values .now) (newOf (a .delta)) (view (l .w)) (l .alarms) (l .i) (l .inv) (c .before .before .before .loop-test .left) in
-    run-figures (a .values .now) (newOf (a .delta)) (view (l .w)) _ _ _ _ e (c .before .before .width .ensures) (c .before .mean .ensures) (c .variance .ensures)
+    let width = c .before .before .width .ensures in
+    run-figures (a .values .now) (newOf (a .delta)) (view (l .w)) _ _ _ _ e width (c .before .mean .ensures) (c .variance .ensures)
 
 pub window-run-spec : {M : Type 1} → statement M
 window-run-spec =
@@ -76,17 +48,14 @@ window-run-spec =
     (tie.spec
     Inv-loop
     μ-loop
-    new-requires
+    (λ c κs. search needs)
     loop-holds
-    mul-update
-    shared-slice-read-update
-    update-requires
-    ring-requires
+    (λ c. search needs) (λ c. search needs) (λ c κs. search needs)
+    (λ c κs. search needs)
     add-alarms
-    add-i
-    loop-less
+    (λ c. search needs) (λ c. search needs)
     loop-again
-    width-requires
-    mean-requires
-    variance-requires
+    (λ c κs. search needs)
+    (λ c κs. search needs)
+    (λ c κs. search needs)
     returns)
