@@ -7,6 +7,9 @@ const ROOM: usize = 65544;
 
 const WORDS: usize = 8193;
 
+// The bytes of the settings and three points of a word each.
+const THREE_POINTS: usize = 64;
+
 // Bits of doubles.
 const MINUS_ONE: u64 = 0xbff0_0000_0000_0000;
 
@@ -28,6 +31,7 @@ const SIXTY_FIVE: u64 = 0x4050_4000_0000_0000;
 
 const NAN: u64 = 0x7ff8_0000_0000_0000;
 
+// What `families` prints for an input, under its heading.
 fn show(heading: &[u8], input: &[u8]) {
     let mut output = io::buffer();
     let written = families_text::families(input, &mut output);
@@ -45,6 +49,7 @@ fn case(heading: &[u8], room: &[u8; ROOM], n: usize) {
     }
 }
 
+// A word at its place among the words.
 fn set_word(room: &mut [u8; ROOM], place: usize, word: u64) {
     if WORDS <= place {
         return;
@@ -58,6 +63,7 @@ fn set_word(room: &mut [u8; ROOM], place: usize, word: u64) {
     }
 }
 
+// The settings.
 fn set_head(room: &mut [u8; ROOM], dim: u64, r: u64, lambda: u64, alpha: u64, min_weight: u64) {
     set_word(room, 0, dim);
     set_word(room, 1, r);
@@ -76,10 +82,11 @@ fn reading(heading: &[u8], alpha: u64, n: usize) {
     case(heading, &room, n);
 }
 
+// Document 01's readings of `families`.
 fn readings() {
-    reading(b"alpha 0.5", HALF, 64);
-    reading(b"alpha 1", ONE, 64);
-    reading(b"alpha 0.999", UNDER_ONE, 64);
+    reading(b"alpha 0.5", HALF, THREE_POINTS);
+    reading(b"alpha 1", ONE, THREE_POINTS);
+    reading(b"alpha 0.999", UNDER_ONE, THREE_POINTS);
     reading(b"two points", HALF, 56);
 }
 
@@ -90,6 +97,7 @@ fn opening(heading: &[u8], dim: u64, r: u64, lambda: u64, alpha: u64, min_weight
     case(heading, &room, n);
 }
 
+// Settings of a dim, cut at n bytes.
 fn dim(heading: &[u8], dim: u64, n: usize) {
     opening(heading, dim, ONE, LAMBDA, HALF, ONE, n);
 }
@@ -116,6 +124,7 @@ fn out_of_range() {
     dim(b"dim 2^64 - 1", 0xffff_ffff_ffff_ffff, 48);
 }
 
+// A dim in range wants whole points.
 fn in_range() {
     dim(b"dim 15", 15, 40);
     dim(b"dim 15 and a point", 15, 160);
