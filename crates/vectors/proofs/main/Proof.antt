@@ -12,17 +12,8 @@ abbrev μ-loop : tie.MeasureT-loop
 loop-holds : tie.Need-loop-holds Inv-loop μ-loop
 loop-holds c = tt
 
-record-requires : tie.Need-record-requires Inv-loop μ-loop
-record-requires c κs = search needs
-
 returns : tie.Need-returns Inv-loop μ-loop
 returns c = tt
-
-sub-left : tie.Need-sub-left Inv-loop μ-loop
-sub-left c = search needs
-
-loop-less : tie.Need-loop-less Inv-loop μ-loop
-loop-less c = search needs
 
 loop-again : tie.Need-loop-again Inv-loop μ-loop
 loop-again c = tt
@@ -37,9 +28,8 @@ main-spec =
     Inv-loop
     μ-loop
     loop-holds
-    record-requires
+    (λ c κs. search needs)
     returns
-    sub-left
-    loop-less
+    (λ c. search needs) (λ c. search needs)
     loop-again
     returns-2)
