@@ -13,8 +13,6 @@ abbrev μ-loop : tie.MeasureT-loop
 pub set-word-spec : {M : Type 1} → statement M
 set-word-spec =
     tie.close
-    (tie.spec
-    Inv-loop
-    μ-loop
+    (tie.spec Inv-loop μ-loop
     (λ c. search needs) (λ c. search needs) (λ c. search needs) (λ c. search needs) (λ c. search needs)
     (λ c. search needs) (λ c. search needs) (λ c. search needs) (λ c. search needs) (λ c. search needs))

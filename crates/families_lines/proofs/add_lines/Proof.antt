@@ -41,10 +41,7 @@ returns c =
 pub add-lines-spec : {M : Type 1} → statement M
 add-lines-spec =
     tie.close
-    (tie.spec
-    Inv-loop
-    μ-loop
-    loop-holds
+    (tie.spec Inv-loop μ-loop loop-holds
     (λ c. search needs) (λ c. search needs) (λ c. search needs) (λ c. search needs) (λ c κs. search needs)
     (λ c. search needs) (λ c. search needs)
     loop-again

@@ -26,10 +26,7 @@ returns-3 c = counts (c .before .loop .done) (c .before .loop .room) (search nee
 pub read-all-spec : {M : Type 1} → statement M
 read-all-spec =
     tie.close
-    (tie.spec
-    Inv-loop
-    μ-loop
-    loop-holds
+    (tie.spec Inv-loop μ-loop loop-holds
     (λ c. search needs) (λ c. search needs) (λ c. search needs) (λ c κs. search needs)
     (λ c. search needs) (λ c. search needs) (λ c. search needs) (λ c. search needs) (λ c. search needs)
     (λ c κs. search needs)

@@ -34,10 +34,7 @@ returns c =
 pub add-phase-spec : {M : Type 1} → statement M
 add-phase-spec =
     tie.close
-    (tie.spec
-    Inv-loop
-    μ-loop
-    loop-holds
+    (tie.spec Inv-loop μ-loop loop-holds
     (λ c κs. search needs)
     (λ c. search needs) (λ c. search needs)
     loop-again

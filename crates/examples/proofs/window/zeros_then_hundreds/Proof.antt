@@ -10,15 +10,10 @@ Inv-loop window₀ n₀ t6 t7 window n = n ≤ 64
 abbrev μ-loop : tie.MeasureT-loop
 μ-loop window₀ n₀ t6 t7 window n = 64 - n
 
-returns : tie.Need-returns Inv-loop μ-loop
-returns c = tt
-
 pub zeros-then-hundreds-spec : {M : Type 1} → statement M
 zeros-then-hundreds-spec =
     tie.close
-    (tie.spec
-    Inv-loop
-    μ-loop
+    (tie.spec Inv-loop μ-loop
     (λ c κs. search needs)
     (λ c. search needs) (λ c κs. search needs)
     (λ c. search needs) (λ c κs. search needs)
@@ -26,4 +21,4 @@ zeros-then-hundreds-spec =
     (λ c κs. search needs)
     (λ c. search needs) (λ c κs. search needs)
     (λ c. search needs) (λ c. search needs) (λ c. search needs) (λ c. search needs)
-    returns)
+    (λ c. tt))

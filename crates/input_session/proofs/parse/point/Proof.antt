@@ -34,10 +34,7 @@ returns c =
 pub point-spec : {M : Type 1} → statement M
 point-spec =
     tie.close
-    (tie.spec
-    Inv-loop
-    μ-loop
-    loop-holds
+    (tie.spec Inv-loop μ-loop loop-holds
     (λ c. search needs) (λ c. search needs) (λ c κs. search needs)
     (λ c. search needs) (λ c. search needs) (λ c. search needs) (λ c. search needs)
     loop-again

@@ -68,9 +68,7 @@ returns-2 c =
 pub insert-all-spec : {M : Type 1} → statement M
 insert-all-spec =
     tie.close
-    (tie.spec
-    Inv-loop
-    μ-loop
+    (tie.spec Inv-loop μ-loop
     (λ c. search needs) (λ c. search needs) (λ c. search needs)
     loop-holds
     point-requires

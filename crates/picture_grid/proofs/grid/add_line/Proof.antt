@@ -37,10 +37,7 @@ returns c =
 pub add-line-spec : {M : Type 1} → statement M
 add-line-spec =
     tie.close
-    (tie.spec
-    Inv-loop
-    μ-loop
-    loop-holds
+    (tie.spec Inv-loop μ-loop loop-holds
     (λ c. search needs) (λ c. search needs) (λ c. search needs) (λ c. search needs) (λ c κs. search needs)
     (λ c κs. search needs)
     (λ c. search needs) (λ c. search needs)

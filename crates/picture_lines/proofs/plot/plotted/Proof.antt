@@ -38,10 +38,7 @@ returns c =
 pub plotted-spec : {M : Type 1} → statement M
 plotted-spec =
     tie.close
-    (tie.spec
-    Inv-loop
-    μ-loop
-    loop-holds
+    (tie.spec Inv-loop μ-loop loop-holds
     (λ c κs. search needs)
     (λ c κs. search needs)
     (λ c. search needs) (λ c. search needs)

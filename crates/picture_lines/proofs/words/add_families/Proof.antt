@@ -46,10 +46,7 @@ returns c =
 pub add-families-spec : {M : Type 1} → statement M
 add-families-spec =
     tie.close
-    (tie.spec
-    Inv-loop
-    μ-loop
-    loop-holds
+    (tie.spec Inv-loop μ-loop loop-holds
     (λ c κs. search needs)
     (λ c κs. search needs)
     (λ c. search needs) (λ c. search needs)

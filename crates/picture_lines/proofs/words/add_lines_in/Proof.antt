@@ -45,10 +45,7 @@ returns c =
 pub add-lines-in-spec : {M : Type 1} → statement M
 add-lines-in-spec =
     tie.close
-    (tie.spec
-    Inv-loop
-    μ-loop
-    loop-holds
+    (tie.spec Inv-loop μ-loop loop-holds
     (λ c κs. search needs)
     (λ c κs. search needs)
     (λ c. search needs) (λ c. search needs)

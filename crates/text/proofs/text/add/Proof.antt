@@ -52,9 +52,7 @@ returns c =
 pub add-spec : {M : Type 1} → statement M
 add-spec =
     tie.close
-    (tie.spec
-    Inv-loop
-    μ-loop
+    (tie.spec Inv-loop μ-loop
     (λ c κs. search needs)
     (λ c. search needs) (λ c κs. search needs)
     loop-holds

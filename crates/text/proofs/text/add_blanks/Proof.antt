@@ -33,10 +33,7 @@ returns c =
 pub add-blanks-spec : {M : Type 1} → statement M
 add-blanks-spec =
     tie.close
-    (tie.spec
-    Inv-loop
-    μ-loop
-    loop-holds
+    (tie.spec Inv-loop μ-loop loop-holds
     (λ c κs. search needs)
     (λ c. search needs) (λ c. search needs)
     loop-again

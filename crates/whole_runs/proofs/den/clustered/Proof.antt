@@ -28,10 +28,7 @@ returns c = let l = c .before .loop in iterate-end clusterOf (l .left) (view (l 
 pub clustered-spec : {M : Type 1} → statement M
 clustered-spec =
     tie.close
-    (tie.spec
-    Inv-loop
-    μ-loop
-    loop-holds
+    (tie.spec Inv-loop μ-loop loop-holds
     (λ c κs. search needs)
     (λ c. search needs) (λ c. search needs)
     loop-again

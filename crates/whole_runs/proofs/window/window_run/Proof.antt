@@ -45,9 +45,7 @@ returns c =
 pub window-run-spec : {M : Type 1} → statement M
 window-run-spec =
     tie.close
-    (tie.spec
-    Inv-loop
-    μ-loop
+    (tie.spec Inv-loop μ-loop
     (λ c κs. search needs)
     loop-holds
     (λ c. search needs) (λ c. search needs) (λ c κs. search needs)
