@@ -1,4 +1,5 @@
 -- `clustered` meets its contract. Assumes nothing.
+use native.Mathlib.Omega.{arith}
 use mathlib.Core.Path.{_≡_, refl}
 use Rattle.model.specs.Dbstream.{clusterOf}
 use Rattle.dbstream.specs.View.{view}
@@ -20,10 +21,10 @@ loop-holds c = refl
 loop-again : tie.Need-loop-again Inv-loop μ-loop
 loop-again c =
     let l = c .before .before .loop in
-    iterate-next clusterOf (l .left) (view (l .s)) _ (c .before .loop-test .taken) (c .cluster .ensures) (l .inv)
+    iterate-next clusterOf (l .left) (view (l .s)) _ (omega (arith, c .before .loop-test .taken)) (c .cluster .ensures) (l .inv)
 
 returns : tie.Need-returns Inv-loop μ-loop
-returns c = let l = c .before .loop in iterate-end clusterOf (l .left) (view (l .s)) (c .loop-test .left) (l .inv)
+returns c = let l = c .before .loop in iterate-end clusterOf (l .left) (view (l .s)) (omega (arith, c .loop-test .left)) (l .inv)
 
 pub clustered-spec : {M : Type 1} → statement M
 clustered-spec =
