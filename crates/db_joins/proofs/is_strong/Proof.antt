@@ -8,9 +8,6 @@ use borrow.Author.Needs.{needs}
 use Rattle.db_joins.proofs.is_strong.Statement.{statement}
 use Rattle.db_joins.proofs.is_strong.Tie as tie
 
-array-read-result : tie.Need-array-read-result
-array-read-result c = search needs
-
 returns : tie.Need-returns
 returns c =
     let a = c .before .args in
@@ -22,4 +19,4 @@ returns-2 c =
     sym (List·getD-eq-default (take (a .n) (a .t1)) false {n = a .i} (omega (arith, length-take (a .n) (a .t1))))
 
 pub is-strong-spec : {M : Type 1} → statement M
-is-strong-spec = tie.close (tie.spec array-read-result returns returns-2)
+is-strong-spec = tie.close (tie.spec (λ c. search needs) returns returns-2)

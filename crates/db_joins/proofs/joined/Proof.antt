@@ -27,12 +27,6 @@ Inv-loop count ids strong n lambda t dense links end held a₀ b₀ k₀ q₀ a 
 abbrev μ-loop : tie.MeasureT-loop
 μ-loop count ids strong n lambda t dense links end held a₀ b₀ k₀ q₀ a b k q = end - q
 
-cut-requires : tie.Need-cut-requires Inv-loop μ-loop
-cut-requires c κs = search needs
-
-cut-requires-2 : tie.Need-cut-requires-2 Inv-loop μ-loop
-cut-requires-2 c κs = search needs
-
 loop-holds : tie.Need-loop-holds Inv-loop μ-loop
 loop-holds c =
     let a = c .before .before .args in
@@ -47,42 +41,6 @@ loop-holds c =
           ∙ ap₂ (λ (x : List MicroId) (y : List Bool). joinedBy x y (a .lambda) (a .t) (a .dense) (take (a .count) (a .t1)))
           (cut-take _ (a .n) microsMost (a .ids) h (omega arith)) (cut-take _ (a .n) microsMost (a .strong) h (omega arith)),
     )
-
-mul-l : tie.Need-mul-l Inv-loop μ-loop
-mul-l c = search needs
-
-array-copy-out-l : tie.Need-array-copy-out-l Inv-loop μ-loop
-array-copy-out-l c = search needs
-
-place-of-requires : tie.Need-place-of-requires Inv-loop μ-loop
-place-of-requires c κs = search needs
-
-place-of-requires-2 : tie.Need-place-of-requires-2 Inv-loop μ-loop
-place-of-requires-2 c κs = search needs
-
-joins-requires : tie.Need-joins-requires Inv-loop μ-loop
-joins-requires c κs = search needs
-
-mul-a : tie.Need-mul-a Inv-loop μ-loop
-mul-a c = search needs
-
-array-write-a : tie.Need-array-write-a Inv-loop μ-loop
-array-write-a c = search needs
-
-mul-b : tie.Need-mul-b Inv-loop μ-loop
-mul-b c = search needs
-
-array-write-b : tie.Need-array-write-b Inv-loop μ-loop
-array-write-b c = search needs
-
-add-k : tie.Need-add-k Inv-loop μ-loop
-add-k c = search needs
-
-add-q : tie.Need-add-q Inv-loop μ-loop
-add-q c = search needs
-
-loop-less : tie.Need-loop-less Inv-loop μ-loop
-loop-less c = search needs
 
 loop-again : tie.Need-loop-again Inv-loop μ-loop
 loop-again c =
@@ -142,5 +100,6 @@ returns c =
 pub joined-spec : {M : Type 1} → statement M
 joined-spec =
     tie.close
-    (tie.spec Inv-loop μ-loop cut-requires cut-requires-2 loop-holds mul-l array-copy-out-l place-of-requires place-of-requires-2 joins-requires mul-a
-    array-write-a mul-b array-write-b add-k add-q loop-less loop-again returns)
+    (tie.spec Inv-loop μ-loop (λ c κs. search needs) (λ c κs. search needs) loop-holds (λ c. search needs) (λ c. search needs)
+    (λ c κs. search needs) (λ c κs. search needs) (λ c κs. search needs) (λ c. search needs) (λ c. search needs) (λ c. search needs)
+    (λ c. search needs) (λ c. search needs) (λ c. search needs) (λ c. search needs) loop-again returns)

@@ -4,15 +4,6 @@ use borrow.Author.Needs.{needs}
 use Rattle.db_joins.proofs.joins.Statement.{statement}
 use Rattle.db_joins.proofs.joins.Tie as tie
 
-is-strong-requires : tie.Need-is-strong-requires
-is-strong-requires c κs = search needs
-
-is-strong-requires-2 : tie.Need-is-strong-requires-2
-is-strong-requires-2 c κs = search needs
-
-faded-requires : tie.Need-faded-requires
-faded-requires c κs = search needs
-
 returns : tie.Need-returns
 returns c =
     let at-is-strong2 = c .before .before in
@@ -36,4 +27,4 @@ returns-3 c = sym (rw (sym (c .before .«is-strong» .ensures) ∙ c .if1 .left)
 pub joins-spec : {M : Type 1} → statement M
 joins-spec =
     tie.close
-    (tie.spec is-strong-requires is-strong-requires-2 faded-requires returns returns-2 returns-3)
+    (tie.spec (λ c κs. search needs) (λ c κs. search needs) (λ c κs. search needs) returns returns-2 returns-3)

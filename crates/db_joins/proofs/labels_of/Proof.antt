@@ -9,12 +9,6 @@ use borrow.Author.Needs.{needs}
 use Rattle.db_joins.proofs.labels_of.Statement.{statement}
 use Rattle.db_joins.proofs.labels_of.Tie as tie
 
-cut-requires : tie.Need-cut-requires
-cut-requires c κs = search needs
-
-joined-requires : tie.Need-joined-requires
-joined-requires c κs = search needs
-
 -- the arrays of the pairs have room for all links
 room-a : (c : tie.After-joined) → length (c .joined .result .a) ≡ linksMost
 room-a c = sym (length-map (c .joined .result .a) _) ∙ c .joined .ok .1 .1 .0 .1 .0 .1
@@ -42,12 +36,6 @@ slice-aggregate-roots-2 c =
     let at-joined = c .before .before .before .before in
     sym (length-take-le _ (at-joined .joined .result .b) (omega (arith, room-b at-joined, at-joined .joined .ensures .1)))
 
-roots-requires : tie.Need-roots-requires
-roots-requires c κs = search needs
-
-labels-requires : tie.Need-labels-requires
-labels-requires c κs = search needs
-
 returns : tie.Need-returns
 returns c =
     let at-joined = c .before .before .before .before .before .before in
@@ -61,5 +49,5 @@ returns c =
 pub labels-of-spec : {M : Type 1} → statement M
 labels-of-spec =
     tie.close
-    (tie.spec cut-requires joined-requires array-share-prefix-a slice-aggregate-roots array-share-prefix-b slice-aggregate-roots-2 roots-requires
-    labels-requires returns)
+    (tie.spec (λ c κs. search needs) (λ c κs. search needs) array-share-prefix-a slice-aggregate-roots array-share-prefix-b
+    slice-aggregate-roots-2 (λ c κs. search needs) (λ c κs. search needs) returns)

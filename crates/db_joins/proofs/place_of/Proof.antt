@@ -25,12 +25,6 @@ loop-holds c =
     let a = c .args in
     (omega arith, zero-add _ ∙ ap (λ (l : List MicroId). placeAmong l (a .id)) (rest-start (a .n) (a .t1)))
 
-mul-a : tie.Need-mul-a Inv-loop μ-loop
-mul-a c = search needs
-
-array-copy-out-a : tie.Need-array-copy-out-a Inv-loop μ-loop
-array-copy-out-a c = search needs
-
 returns : tie.Need-returns Inv-loop μ-loop
 returns c =
     let at-test = c .before .before .before .before in
@@ -40,12 +34,6 @@ returns c =
     let e : placeAmong (rest (a .n) (k .i) (a .t1)) (a .id) ≡ 0 =
     place-here (a .id) (a .n) (k .i) (a .t1) _ (at-test .loop-test .taken) (omega arith) (c .if1 .taken) in
     omega arith
-
-add-i : tie.Need-add-i Inv-loop μ-loop
-add-i c = search needs
-
-loop-less : tie.Need-loop-less Inv-loop μ-loop
-loop-less c = search needs
 
 loop-again : tie.Need-loop-again Inv-loop μ-loop
 loop-again c =
@@ -66,4 +54,5 @@ returns-2 c =
 
 pub place-of-spec : {M : Type 1} → statement M
 place-of-spec =
-    tie.close (tie.spec Inv-loop μ-loop loop-holds mul-a array-copy-out-a returns add-i loop-less loop-again returns-2)
+    tie.close (tie.spec Inv-loop μ-loop loop-holds (λ c. search needs) (λ c. search needs) returns (λ c. search needs) (λ c. search needs) loop-again
+    returns-2)

@@ -11,21 +11,6 @@ use Rattle.db_micro.specs.Held.{cutTo, bodyOf}
 use Rattle.db_readout.proofs.micro_stats.Statement.{statement}
 use Rattle.db_readout.proofs.micro_stats.Tie as tie
 
-bodies-requires : tie.Need-bodies-requires
-bodies-requires c κs = search needs
-
-statistics-requires : tie.Need-statistics-requires
-statistics-requires c κs = search needs
-
-same-length : tie.Need-same-length
-same-length c = search needs
-
-same-length-2 : tie.Need-same-length-2
-same-length-2 c = search needs
-
-same-length-3 : tie.Need-same-length-3
-same-length-3 c = search needs
-
 returns : tie.Need-returns
 returns c =
     let e = c .before .before .before .before .before .before in
@@ -39,4 +24,4 @@ returns c =
     (bodies-are bodyOf (cutTo d) (p .dim) (λ m. refl) (s .count) (bs .result) (s .micros) (bs .ensures))
 
 pub micro-stats-spec : {M : Type 1} → statement M
-micro-stats-spec = tie.close (tie.spec bodies-requires statistics-requires same-length same-length-2 same-length-3 returns)
+micro-stats-spec = tie.close (tie.spec (λ c κs. search needs) (λ c κs. search needs) (λ c. search needs) (λ c. search needs) (λ c. search needs) returns)

@@ -13,12 +13,6 @@ use Rattle.db_micro.specs.Held.{cutTo, bodyOf}
 use Rattle.db_readout.proofs.try_predict.Statement.{statement}
 use Rattle.db_readout.proofs.try_predict.Tie as tie
 
-bodies-requires : tie.Need-bodies-requires
-bodies-requires c κs = search needs
-
-predict-requires : tie.Need-predict-requires
-predict-requires c κs = search needs
-
 returns : tie.Need-returns
 returns c =
     let a = c .before .before .before .before .before .before .before .args in
@@ -31,4 +25,4 @@ returns c =
     (bodies-are bodyOf (cutTo d) (p .dim) (λ m. refl) (s .count) (bs .result) (s .micros) (bs .ensures))
 
 pub try-predict-spec : {M : Type 1} → statement M
-try-predict-spec = tie.close (tie.spec bodies-requires predict-requires returns)
+try-predict-spec = tie.close (tie.spec (λ c κs. search needs) (λ c κs. search needs) returns)

@@ -4,11 +4,8 @@ use Rattle.denstream.specs.View.{view}
 use Rattle.den_readout.proofs.n_clusters.Statement.{statement}
 use Rattle.den_readout.proofs.n_clusters.Tie as tie
 
-n-clusters-requires : tie.Need-n-clusters-requires
-n-clusters-requires c κs = search needs
-
 returns : tie.Need-returns
 returns c = c .n-clusters .ensures
 
 pub n-clusters-spec : {M : Type 1} → statement M
-n-clusters-spec = tie.close (tie.spec n-clusters-requires returns)
+n-clusters-spec = tie.close (tie.spec (λ c κs. search needs) returns)

@@ -12,24 +12,6 @@ use Rattle.denstream.specs.View.{view}
 use Rattle.den_readout.proofs.potential_stats.Statement.{statement}
 use Rattle.den_readout.proofs.potential_stats.Tie as tie
 
-potential-held-requires : tie.Need-potential-held-requires
-potential-held-requires c κs = search needs
-
-bodies-requires : tie.Need-bodies-requires
-bodies-requires c κs = search needs
-
-statistics-requires : tie.Need-statistics-requires
-statistics-requires c κs = search needs
-
-same-length : tie.Need-same-length
-same-length c = search needs
-
-same-length-2 : tie.Need-same-length-2
-same-length-2 c = search needs
-
-same-length-3 : tie.Need-same-length-3
-same-length-3 c = search needs
-
 returns : tie.Need-returns
 returns c =
     let e = c .before .before .before .before .before .before in
@@ -46,11 +28,5 @@ returns c =
 pub potential-stats-spec : {M : Type 1} → statement M
 potential-stats-spec =
     tie.close
-    (tie.spec
-    potential-held-requires
-    bodies-requires
-    statistics-requires
-    same-length
-    same-length-2
-    same-length-3
-    returns)
+    (tie.spec (λ c κs. search needs) (λ c κs. search needs) (λ c κs. search needs) (λ c. search needs) (λ c. search needs)
+    (λ c. search needs) returns)

@@ -13,15 +13,6 @@ use Rattle.denstream.specs.View.{view}
 use Rattle.den_readout.proofs.try_predict.Statement.{statement}
 use Rattle.den_readout.proofs.try_predict.Tie as tie
 
-potential-held-requires : tie.Need-potential-held-requires
-potential-held-requires c κs = search needs
-
-bodies-requires : tie.Need-bodies-requires
-bodies-requires c κs = search needs
-
-predict-requires : tie.Need-predict-requires
-predict-requires c κs = search needs
-
 returns : tie.Need-returns
 returns c =
     let a = c .before .before .before .before .before .before .before .args in
@@ -36,4 +27,4 @@ returns c =
     ∙ ap (λ (h : ℕ). map bodyOf (seen d h (s .potential))) (n .ensures))
 
 pub try-predict-spec : {M : Type 1} → statement M
-try-predict-spec = tie.close (tie.spec potential-held-requires bodies-requires predict-requires returns)
+try-predict-spec = tie.close (tie.spec (λ c κs. search needs) (λ c κs. search needs) (λ c κs. search needs) returns)

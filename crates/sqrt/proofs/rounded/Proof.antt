@@ -13,30 +13,12 @@ bit k = omega arith
 some : (k : ℕ) → 0 < 1 + k % 2
 some k = omega arith
 
-add-digits : tie.Need-add-digits
-add-digits c = search needs
-
 mul-digits : tie.Need-mul-digits
 mul-digits c = omega (arith, mul-le-mul-left (c .args .m) (bit (c .args .k)))
 
 digits-requires : tie.Need-digits-requires
 digits-requires c κs =
     (mul-pos (c .pre .0) (some (c .args .k)), omega (arith, mul-le-mul-left (c .args .m) (bit (c .args .k))))
-
-add-result : tie.Need-add-result
-add-result c = search needs
-
-sub-result : tie.Need-sub-result
-sub-result c = search needs
-
-mul-result : tie.Need-mul-result
-mul-result c = search needs
-
-add-result-2 : tie.Need-add-result-2
-add-result-2 c = search needs
-
-add-result-3 : tie.Need-add-result-3
-add-result-3 c = search needs
 
 float-from-bits-result : tie.Need-float-from-bits-result
 float-from-bits-result c =
@@ -53,4 +35,5 @@ returns c =
 pub rounded-spec : {M : Type 1} → statement M
 rounded-spec =
     tie.close
-    (tie.spec add-digits mul-digits digits-requires add-result sub-result mul-result add-result-2 add-result-3 float-from-bits-result returns)
+    (tie.spec (λ c. search needs) mul-digits digits-requires (λ c. search needs) (λ c. search needs) (λ c. search needs) (λ c. search needs)
+    (λ c. search needs) float-from-bits-result returns)

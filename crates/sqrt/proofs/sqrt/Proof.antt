@@ -37,15 +37,6 @@ returns-2 c =
     c .rounded .ensures ∙ sym (sqrt-of-value x (b * 2 ^ 0) (low-value x (held s) (c .before .if3 .taken))
     (mul-pos (bits-pos x (held s) (at-if2 .if2 .taken)) (pow-pos 0)))
 
-add-rounded : tie.Need-add-rounded
-add-rounded c = search needs
-
-sub-rounded : tie.Need-sub-rounded
-sub-rounded c = search needs
-
-rounded-requires-2 : tie.Need-rounded-requires-2
-rounded-requires-2 c κs = search needs
-
 returns-3 : tie.Need-returns-3
 returns-3 c =
     let at-if3 = c .before .before in
@@ -68,4 +59,5 @@ returns-5 c = neither (c .before .before .args .x) (c .before .if1 .left) (c .if
 
 pub sqrt-spec : {M : Type 1} → statement M
 sqrt-spec =
-    tie.close (tie.spec returns float-to-bits-b rounded-requires returns-2 add-rounded sub-rounded rounded-requires-2 returns-3 returns-4 returns-5)
+    tie.close (tie.spec returns float-to-bits-b rounded-requires returns-2 (λ c. search needs) (λ c. search needs) (λ c κs. search needs) returns-3
+    returns-4 returns-5)

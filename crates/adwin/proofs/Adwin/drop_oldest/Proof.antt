@@ -22,43 +22,10 @@ buckets-room c = sym (length-map (c .args .t1 .buckets) _) ∙ c .good .0 .1 .1 
 classes-room : (c : tie.Start Inv-loop μ-loop) → length (c .args .t1 .classes) ≡ places
 classes-room c = sym (length-map (c .args .t1 .classes) _) ∙ c .good .0 .1 .1 .1 .1 .0 .1 .0 .1
 
-element-copy-out-gone : tie.Need-element-copy-out-gone Inv-loop μ-loop
-element-copy-out-gone c = search needs
-
-variance-without-requires : tie.Need-variance-without-requires Inv-loop μ-loop
-variance-without-requires c κs = search needs
-
-sub-m : tie.Need-sub-m Inv-loop μ-loop
-sub-m c = search needs
-
 loop-holds : tie.Need-loop-holds Inv-loop μ-loop
 loop-holds c =
     let start = c .before .before in
     closing-starts _ _ _ (buckets-room start) (classes-room start) (omega arith) (start .pre .1) (omega arith)
-
-add-p : tie.Need-add-p Inv-loop μ-loop
-add-p c = search needs
-
-mul-b : tie.Need-mul-b Inv-loop μ-loop
-mul-b c = search needs
-
-element-copy-out-b : tie.Need-element-copy-out-b Inv-loop μ-loop
-element-copy-out-b c = search needs
-
-element-copy-out-c : tie.Need-element-copy-out-c Inv-loop μ-loop
-element-copy-out-c c = search needs
-
-mul-b-2 : tie.Need-mul-b-2 Inv-loop μ-loop
-mul-b-2 c = search needs
-
-element-set-from-b : tie.Need-element-set-from-b Inv-loop μ-loop
-element-set-from-b c = search needs
-
-element-write-self : tie.Need-element-write-self Inv-loop μ-loop
-element-write-self c = search needs
-
-loop-less : tie.Need-loop-less Inv-loop μ-loop
-loop-less c = search needs
 
 loop-again : tie.Need-loop-again Inv-loop μ-loop
 loop-again c =
@@ -80,5 +47,6 @@ returns c =
 pub drop-oldest-spec : {M : Type 1} → statement M
 drop-oldest-spec =
     tie.close
-    (tie.spec Inv-loop μ-loop element-copy-out-gone variance-without-requires sub-m loop-holds add-p mul-b element-copy-out-b element-copy-out-c
-    mul-b-2 element-set-from-b element-write-self loop-less loop-again returns)
+    (tie.spec Inv-loop μ-loop (λ c. search needs) (λ c κs. search needs) (λ c. search needs) loop-holds (λ c. search needs)
+    (λ c. search needs) (λ c. search needs) (λ c. search needs) (λ c. search needs) (λ c. search needs) (λ c. search needs)
+    (λ c. search needs) loop-again returns)

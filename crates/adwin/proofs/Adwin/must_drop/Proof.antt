@@ -15,18 +15,6 @@ use borrow.Author.Needs.{needs}
 use Rattle.adwin.proofs.Adwin.must_drop.Statement.{statement}
 use Rattle.adwin.proofs.Adwin.must_drop.Tie as tie
 
-ln-requires : tie.Need-ln-requires
-ln-requires c κs = search needs
-
-max-requires : tie.Need-max-requires
-max-requires c κs = search needs
-
-ln-requires-2 : tie.Need-ln-requires-2
-ln-requires-2 c κs = search needs
-
-some-fails-in-requires : tie.Need-some-fails-in-requires
-some-fails-in-requires c κs = search needs
-
 returns : tie.Need-returns
 returns c =
     let q = c .before .before .before in
@@ -48,4 +36,4 @@ returns-2 c = rw (c .if1 .left)
 pub must-drop-spec : {M : Type 1} → statement M
 must-drop-spec =
     tie.close
-    (tie.spec ln-requires max-requires ln-requires-2 some-fails-in-requires returns returns-2)
+    (tie.spec (λ c κs. search needs) (λ c κs. search needs) (λ c κs. search needs) (λ c κs. search needs) returns returns-2)

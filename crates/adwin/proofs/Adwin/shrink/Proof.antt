@@ -15,9 +15,6 @@ abbrev μ-loop : tie.MeasureT-loop
 loop-holds : tie.Need-loop-holds Inv-loop μ-loop
 loop-holds c = search-starts (c .args .self) (c .pre)
 
-must-drop-requires : tie.Need-must-drop-requires Inv-loop μ-loop
-must-drop-requires c κs = search needs
-
 drop-oldest-requires : tie.Need-drop-oldest-requires Inv-loop μ-loop
 drop-oldest-requires c κs =
     let s = c .before .before .loop .self in (
@@ -25,9 +22,6 @@ drop-oldest-requires c κs =
           (sym (c .before .must-drop .ensures) ∙ c .if1 .taken),
       c .before .before .loop .inv .room,
     )
-
-loop-less : tie.Need-loop-less Inv-loop μ-loop
-loop-less c = search needs
 
 loop-again : tie.Need-loop-again Inv-loop μ-loop
 loop-again c =
@@ -42,4 +36,4 @@ returns c =
 
 pub shrink-spec : {M : Type 1} → statement M
 shrink-spec =
-    tie.close (tie.spec Inv-loop μ-loop loop-holds must-drop-requires drop-oldest-requires loop-less loop-again returns)
+    tie.close (tie.spec Inv-loop μ-loop loop-holds (λ c κs. search needs) drop-oldest-requires (λ c. search needs) loop-again returns)

@@ -43,17 +43,11 @@ pushed c =
       variance = at-variance-with .variance-with .ensures;
     }
 
-is-finite-requires : tie.Need-is-finite-requires
-is-finite-requires c κs = search needs
-
 returns : tie.Need-returns
 returns c =
     let f = c .before in
     let a = f .before .args in
     (not-finite (view (a .self)) (a .value) (sym (f .is-finite .ensures) ∙ not-true _ (c .if1 .taken)), ((λ q. refl), (λ q. refl)))
-
-has-room-requires : tie.Need-has-room-requires
-has-room-requires c κs = search needs
 
 returns-2 : tie.Need-returns-2
 returns-2 c =
@@ -62,12 +56,6 @@ returns-2 c =
     let p : isFinite (a .value) ≡ true = sym (f .is-finite .ensures) ∙ not-false _ (c .before .before .if1 .left) in
     let h : hasRoom (view (a .self)) ≡ false = sym (room-told (f .before)) ∙ sym (c .before .has-room .ensures) ∙ not-true _ (c .if2 .taken) in
     (no-room (view (a .self)) (a .value) p h, ((λ q. refl), (λ q. refl)))
-
-variance-with-requires : tie.Need-variance-with-requires
-variance-with-requires c κs = search needs
-
-single-requires : tie.Need-single-requires
-single-requires c κs = search needs
 
 push-bucket-requires : tie.Need-push-bucket-requires
 push-bucket-requires c κs =
@@ -86,12 +74,6 @@ add-w c =
       room-taken (view (start .args .self)) (p .room),
     )
 
-sub-if3 : tie.Need-sub-if3
-sub-if3 c = search needs
-
-add-w-2 : tie.Need-add-w-2
-add-w-2 c = search needs
-
 returns-3 : tie.Need-returns-3
 returns-3 c =
     let p = pushed (c .before .before .before .before .before .before) in (
@@ -102,9 +84,6 @@ returns-3 c =
             (true≢false (sym (p .finite) ∙ q))),
       ),
     )
-
-shrink-requires : tie.Need-shrink-requires
-shrink-requires c κs = search needs
 
 returns-4 : tie.Need-returns-4
 unfolding shrunk
@@ -122,5 +101,5 @@ returns-4 c =
 pub update-spec : {M : Type 1} → statement M
 update-spec =
     tie.close
-    (tie.spec is-finite-requires returns has-room-requires returns-2 variance-with-requires single-requires push-bucket-requires add-w sub-if3 add-w-2
-    returns-3 shrink-requires returns-4)
+    (tie.spec (λ c κs. search needs) returns (λ c κs. search needs) returns-2 (λ c κs. search needs) (λ c κs. search needs)
+    push-bucket-requires add-w (λ c. search needs) (λ c. search needs) returns-3 (λ c κs. search needs) returns-4)

@@ -11,9 +11,6 @@ truncating-f64-to-u64-requires : tie.Need-truncating-f64-to-u64-requires
 unfolding ofBits
 truncating-f64-to-u64-requires c κs = can-cut _ 1 64 (omega arith) (c .before .if1 .taken) (c .if2 .taken)
 
-returns : tie.Need-returns
-returns c = search needs
-
 returns-2 : tie.Need-returns-2
 returns-2 c = all-ones _ (c .before .if1 .taken) (c .if2 .left)
 
@@ -21,4 +18,4 @@ returns-3 : tie.Need-returns-3
 returns-3 c = none _ (c .if1 .left)
 
 pub width-spec : {M : Type 1} → statement M
-width-spec = tie.close (tie.spec truncating-f64-to-u64-requires returns returns-2 returns-3)
+width-spec = tie.close (tie.spec truncating-f64-to-u64-requires (λ c. search needs) returns-2 returns-3)

@@ -5,15 +5,6 @@ use borrow.Author.Needs.{needs}
 use Rattle.db_link.proofs.between.connectivity.Statement.{statement}
 use Rattle.db_link.proofs.between.connectivity.Tie as tie
 
-is-among-requires : tie.Need-is-among-requires
-is-among-requires c κs = search needs
-
-is-among-requires-2 : tie.Need-is-among-requires-2
-is-among-requires-2 c κs = search needs
-
-density-requires : tie.Need-density-requires
-density-requires c κs = search needs
-
 returns : tie.Need-returns
 returns c =
     let at-if2 = c .before .before .before .before in
@@ -50,4 +41,4 @@ returns-4 c = rw (sym (c .before .is-among .ensures) ∙ c .if1 .left) refl
 
 pub connectivity-spec : {M : Type 1} → statement M
 connectivity-spec =
-    tie.close (tie.spec is-among-requires is-among-requires-2 density-requires returns returns-2 returns-3 returns-4)
+    tie.close (tie.spec (λ c κs. search needs) (λ c κs. search needs) (λ c κs. search needs) returns returns-2 returns-3 returns-4)

@@ -26,12 +26,6 @@ Inv-loop count mean lambda t links n key i₀ i =
 abbrev μ-loop : tie.MeasureT-loop
 μ-loop count mean lambda t links n key i₀ i = n - i
 
-cut-requires : tie.Need-cut-requires Inv-loop μ-loop
-cut-requires c κs = search needs
-
-key-of-requires : tie.Need-key-of-requires Inv-loop μ-loop
-key-of-requires c κs = search needs
-
 loop-holds : tie.Need-loop-holds Inv-loop μ-loop
 loop-holds c =
     let a = c .before .before .args in (
@@ -40,18 +34,6 @@ loop-holds c =
       ap (ofLink (over (a .lambda) (a .t) (a .mean)) (c .«key-of» .result))
           (cut-start (c .before .cut .result) (a .count) linksMost (a .t1) (c .before .cut .ensures) (omega arith)),
     )
-
-mul-l : tie.Need-mul-l Inv-loop μ-loop
-mul-l c = search needs
-
-array-copy-out-l : tie.Need-array-copy-out-l Inv-loop μ-loop
-array-copy-out-l c = search needs
-
-same-ends-requires : tie.Need-same-ends-requires Inv-loop μ-loop
-same-ends-requires c κs = search needs
-
-faded-requires : tie.Need-faded-requires Inv-loop μ-loop
-faded-requires c κs = search needs
 
 returns : tie.Need-returns Inv-loop μ-loop
 returns c =
@@ -63,12 +45,6 @@ returns c =
     ∙ sym (link-here o (k .before .«key-of» .result) (k .before .before .cut .result) (k .loop .i) (a .t1) _ (omega arith) (omega arith)
     (sym (at-same-ends .«same-ends» .ensures) ∙ c .before .if1 .taken))
     ∙ k .loop .inv .2 ∙ ap (λ (key : Link). ofLink o key (take (a .count) (a .t1))) (k .before .«key-of» .ensures)
-
-add-i : tie.Need-add-i Inv-loop μ-loop
-add-i c = search needs
-
-loop-less : tie.Need-loop-less Inv-loop μ-loop
-loop-less c = search needs
 
 loop-again : tie.Need-loop-again Inv-loop μ-loop
 loop-again c =
@@ -91,5 +67,5 @@ returns-2 c =
 pub density-spec : {M : Type 1} → statement M
 density-spec =
     tie.close
-    (tie.spec Inv-loop μ-loop cut-requires key-of-requires loop-holds mul-l array-copy-out-l same-ends-requires faded-requires returns add-i loop-less
-    loop-again returns-2)
+    (tie.spec Inv-loop μ-loop (λ c κs. search needs) (λ c κs. search needs) loop-holds (λ c. search needs) (λ c. search needs)
+    (λ c κs. search needs) (λ c κs. search needs) returns (λ c. search needs) (λ c. search needs) loop-again returns-2)

@@ -20,9 +20,6 @@ Inv-loop n id ids m i₀ i = (i ≤ m) × (m ≤ microsMost) × (isAmong (rest m
 abbrev μ-loop : tie.MeasureT-loop
 μ-loop n id ids m i₀ i = m - i
 
-cut-requires : tie.Need-cut-requires Inv-loop μ-loop
-cut-requires c κs = search needs
-
 loop-holds : tie.Need-loop-holds Inv-loop μ-loop
 loop-holds c =
     let a = c .before .args in (
@@ -32,23 +29,11 @@ loop-holds c =
           (cut-start (c .cut .result) (a .n) microsMost (a .t1) (c .cut .ensures) (omega arith)),
     )
 
-mul-a : tie.Need-mul-a Inv-loop μ-loop
-mul-a c = search needs
-
-array-copy-out-a : tie.Need-array-copy-out-a Inv-loop μ-loop
-array-copy-out-a c = search needs
-
 returns : tie.Need-returns Inv-loop μ-loop
 returns c =
     let k = c .before .before .before .before .before in
     let a = k .before .before .args in
     sym (among-here (a .id) (k .before .cut .result) (k .loop .i) (a .t1) _ (omega arith) (omega arith) (c .if1 .taken)) ∙ k .loop .inv .2
-
-add-i : tie.Need-add-i Inv-loop μ-loop
-add-i c = search needs
-
-loop-less : tie.Need-loop-less Inv-loop μ-loop
-loop-less c = search needs
 
 loop-again : tie.Need-loop-again Inv-loop μ-loop
 loop-again c =
@@ -68,4 +53,5 @@ returns-2 c =
 
 pub is-among-spec : {M : Type 1} → statement M
 is-among-spec =
-    tie.close (tie.spec Inv-loop μ-loop cut-requires loop-holds mul-a array-copy-out-a returns add-i loop-less loop-again returns-2)
+    tie.close (tie.spec Inv-loop μ-loop (λ c κs. search needs) loop-holds (λ c. search needs) (λ c. search needs) returns (λ c. search needs)
+    (λ c. search needs) loop-again returns-2)

@@ -19,35 +19,8 @@ Inv-loop count ids n lambda floor t links₀ m i₀ j₀ links i j = Kept (stays
 abbrev μ-loop : tie.MeasureT-loop
 μ-loop count ids n lambda floor t links₀ m i₀ j₀ links i j = m - i
 
-cut-requires : tie.Need-cut-requires Inv-loop μ-loop
-cut-requires c κs = search needs
-
 loop-holds : tie.Need-loop-holds Inv-loop μ-loop
 loop-holds c = keep-starts (c .cut .ensures) (omega arith)
-
-mul-l : tie.Need-mul-l Inv-loop μ-loop
-mul-l c = search needs
-
-array-copy-out-l : tie.Need-array-copy-out-l Inv-loop μ-loop
-array-copy-out-l c = search needs
-
-stays-requires : tie.Need-stays-requires Inv-loop μ-loop
-stays-requires c κs = search needs
-
-mul-links : tie.Need-mul-links Inv-loop μ-loop
-mul-links c = search needs
-
-array-set-from-links : tie.Need-array-set-from-links Inv-loop μ-loop
-array-set-from-links c = search needs
-
-add-j : tie.Need-add-j Inv-loop μ-loop
-add-j c = search needs
-
-add-i : tie.Need-add-i Inv-loop μ-loop
-add-i c = search needs
-
-loop-less : tie.Need-loop-less Inv-loop μ-loop
-loop-less c = search needs
 
 loop-again : tie.Need-loop-again Inv-loop μ-loop
 loop-again c =
@@ -65,5 +38,5 @@ returns c =
 pub retained-spec : {M : Type 1} → statement M
 retained-spec =
     tie.close
-    (tie.spec Inv-loop μ-loop cut-requires loop-holds mul-l array-copy-out-l stays-requires mul-links array-set-from-links add-j add-i loop-less
-    loop-again returns)
+    (tie.spec Inv-loop μ-loop (λ c κs. search needs) loop-holds (λ c. search needs) (λ c. search needs) (λ c κs. search needs)
+    (λ c. search needs) (λ c. search needs) (λ c. search needs) (λ c. search needs) (λ c. search needs) loop-again returns)

@@ -6,15 +6,6 @@ use Rattle.db_link.proofs.Searches.{both-held, lost-hi, lost-lo}
 use Rattle.db_link.proofs.stay.stays.Statement.{statement}
 use Rattle.db_link.proofs.stay.stays.Tie as tie
 
-is-among-requires : tie.Need-is-among-requires
-is-among-requires c κs = search needs
-
-is-among-requires-2 : tie.Need-is-among-requires-2
-is-among-requires-2 c κs = search needs
-
-faded-requires : tie.Need-faded-requires
-faded-requires c κs = search needs
-
 returns : tie.Need-returns
 returns c =
     let at-is-among2 = c .before .before in
@@ -41,4 +32,4 @@ returns-3 c =
 pub stays-spec : {M : Type 1} → statement M
 stays-spec =
     tie.close
-    (tie.spec is-among-requires is-among-requires-2 faded-requires returns returns-2 returns-3)
+    (tie.spec (λ c κs. search needs) (λ c κs. search needs) (λ c κs. search needs) returns returns-2 returns-3)

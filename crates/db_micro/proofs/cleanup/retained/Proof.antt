@@ -18,35 +18,8 @@ Inv-loop n lambda t floor micros₀ end i₀ j₀ micros i j = Kept (microStays 
 abbrev μ-loop : tie.MeasureT-loop
 μ-loop n lambda t floor micros₀ end i₀ j₀ micros i j = end - i
 
-cut-requires : tie.Need-cut-requires Inv-loop μ-loop
-cut-requires c κs = search needs
-
 loop-holds : tie.Need-loop-holds Inv-loop μ-loop
 loop-holds c = keep-starts (c .cut .ensures) (omega arith)
-
-mul-m : tie.Need-mul-m Inv-loop μ-loop
-mul-m c = search needs
-
-array-copy-out-m : tie.Need-array-copy-out-m Inv-loop μ-loop
-array-copy-out-m c = search needs
-
-stays-requires : tie.Need-stays-requires Inv-loop μ-loop
-stays-requires c κs = search needs
-
-mul-micros : tie.Need-mul-micros Inv-loop μ-loop
-mul-micros c = search needs
-
-array-set-from-micros : tie.Need-array-set-from-micros Inv-loop μ-loop
-array-set-from-micros c = search needs
-
-add-j : tie.Need-add-j Inv-loop μ-loop
-add-j c = search needs
-
-add-i : tie.Need-add-i Inv-loop μ-loop
-add-i c = search needs
-
-loop-less : tie.Need-loop-less Inv-loop μ-loop
-loop-less c = search needs
 
 loop-again : tie.Need-loop-again Inv-loop μ-loop
 loop-again c =
@@ -63,18 +36,5 @@ returns c =
 pub retained-spec : {M : Type 1} → statement M
 retained-spec =
     tie.close
-    (tie.spec
-    Inv-loop
-    μ-loop
-    cut-requires
-    loop-holds
-    mul-m
-    array-copy-out-m
-    stays-requires
-    mul-micros
-    array-set-from-micros
-    add-j
-    add-i
-    loop-less
-    loop-again
-    returns)
+    (tie.spec Inv-loop μ-loop (λ c κs. search needs) loop-holds (λ c. search needs) (λ c. search needs) (λ c κs. search needs)
+    (λ c. search needs) (λ c. search needs) (λ c. search needs) (λ c. search needs) (λ c. search needs) loop-again returns)

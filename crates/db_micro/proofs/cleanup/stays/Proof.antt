@@ -6,11 +6,8 @@ use borrow.Author.Needs.{needs}
 use Rattle.db_micro.proofs.cleanup.stays.Statement.{statement}
 use Rattle.db_micro.proofs.cleanup.stays.Tie as tie
 
-faded-weight-requires : tie.Need-faded-weight-requires
-faded-weight-requires c κs = search needs
-
 returns : tie.Need-returns
 returns c = ap (λ (w : Float). not (lt w (c .before .before .args .floor))) (c .faded-weight .ensures)
 
 pub stays-spec : {M : Type 1} → statement M
-stays-spec = tie.close (tie.spec faded-weight-requires returns)
+stays-spec = tie.close (tie.spec (λ c κs. search needs) returns)

@@ -14,29 +14,8 @@ Inv-loop n micros k ids₀ i₀ ids i = Gathered idOf 64 n k micros ids i
 abbrev μ-loop : tie.MeasureT-loop
 μ-loop n micros k ids₀ i₀ ids i = k - i
 
-cut-requires : tie.Need-cut-requires Inv-loop μ-loop
-cut-requires c κs = search needs
-
 loop-holds : tie.Need-loop-holds Inv-loop μ-loop
 loop-holds c = gather-starts (c .cut .ensures) (omega arith) refl
-
-mul-m : tie.Need-mul-m Inv-loop μ-loop
-mul-m c = search needs
-
-array-copy-out-m : tie.Need-array-copy-out-m Inv-loop μ-loop
-array-copy-out-m c = search needs
-
-mul-ids : tie.Need-mul-ids Inv-loop μ-loop
-mul-ids c = search needs
-
-array-set-from-ids : tie.Need-array-set-from-ids Inv-loop μ-loop
-array-set-from-ids c = search needs
-
-add-i : tie.Need-add-i Inv-loop μ-loop
-add-i c = search needs
-
-loop-less : tie.Need-loop-less Inv-loop μ-loop
-loop-less c = search needs
 
 loop-again : tie.Need-loop-again Inv-loop μ-loop
 loop-again c = gather-goes (c .before .before .before .loop .inv) _ (c .before .before .loop-test .taken) refl
@@ -47,16 +26,5 @@ returns c = gather-ends (c .before .loop .inv) (omega arith)
 pub ids-of-spec : {M : Type 1} → statement M
 ids-of-spec =
     tie.close
-    (tie.spec
-    Inv-loop
-    μ-loop
-    cut-requires
-    loop-holds
-    mul-m
-    array-copy-out-m
-    mul-ids
-    array-set-from-ids
-    add-i
-    loop-less
-    loop-again
-    returns)
+    (tie.spec Inv-loop μ-loop (λ c κs. search needs) loop-holds (λ c. search needs) (λ c. search needs) (λ c. search needs)
+    (λ c. search needs) (λ c. search needs) (λ c. search needs) loop-again returns)

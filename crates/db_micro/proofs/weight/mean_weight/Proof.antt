@@ -6,14 +6,8 @@ use borrow.Author.Needs.{needs}
 use Rattle.db_micro.proofs.weight.mean_weight.Statement.{statement}
 use Rattle.db_micro.proofs.weight.mean_weight.Tie as tie
 
-stored-weight-requires : tie.Need-stored-weight-requires
-stored-weight-requires c κs = search needs
-
-stored-weight-requires-2 : tie.Need-stored-weight-requires-2
-stored-weight-requires-2 c κs = search needs
-
 returns : tie.Need-returns
 returns c = ap₂ (λ (a b : Float). (a ⊕ b) ⊘ two) (c .before .stored-weight .ensures) (c .stored-weight2 .ensures)
 
 pub mean-weight-spec : {M : Type 1} → statement M
-mean-weight-spec = tie.close (tie.spec stored-weight-requires stored-weight-requires-2 returns)
+mean-weight-spec = tie.close (tie.spec (λ c κs. search needs) (λ c κs. search needs) returns)

@@ -19,19 +19,10 @@ Inv-loop n id micros k i₀ i = (i ≤ k) × (k ≤ 64) × (storedWeight (rest k
 abbrev μ-loop : tie.MeasureT-loop
 μ-loop n id micros k i₀ i = k - i
 
-cut-requires : tie.Need-cut-requires Inv-loop μ-loop
-cut-requires c κs = search needs
-
 loop-holds : tie.Need-loop-holds Inv-loop μ-loop
 loop-holds c =
     let a = c .before .args in
     (omega arith, omega arith, ap (λ (l : List DbMicro). storedWeight l (a .id)) (cut-start _ (a .n) 64 (a .t1) (c .cut .ensures) (omega arith)))
-
-mul-m : tie.Need-mul-m Inv-loop μ-loop
-mul-m c = search needs
-
-array-copy-out-m : tie.Need-array-copy-out-m Inv-loop μ-loop
-array-copy-out-m c = search needs
 
 returns : tie.Need-returns Inv-loop μ-loop
 returns c =
@@ -39,12 +30,6 @@ returns c =
     let a = c .before .before .before .before .before .before .before .before .args in
     sym (weight-here (a .id) (c .before .before .before .before .before .before .before .cut .result) (k .i) (a .t1) _
     (c .before .before .before .before .before .loop-test .taken) (omega arith) (c .if1 .taken)) ∙ k .inv .2
-
-add-i : tie.Need-add-i Inv-loop μ-loop
-add-i c = search needs
-
-loop-less : tie.Need-loop-less Inv-loop μ-loop
-loop-less c = search needs
 
 loop-again : tie.Need-loop-again Inv-loop μ-loop
 loop-again c =
@@ -65,15 +50,5 @@ returns-2 c =
 pub stored-weight-spec : {M : Type 1} → statement M
 stored-weight-spec =
     tie.close
-    (tie.spec
-    Inv-loop
-    μ-loop
-    cut-requires
-    loop-holds
-    mul-m
-    array-copy-out-m
-    returns
-    add-i
-    loop-less
-    loop-again
-    returns-2)
+    (tie.spec Inv-loop μ-loop (λ c κs. search needs) loop-holds (λ c. search needs) (λ c. search needs) returns (λ c. search needs)
+    (λ c. search needs) loop-again returns-2)

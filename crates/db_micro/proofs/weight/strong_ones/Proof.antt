@@ -15,29 +15,8 @@ Inv-loop n lambda t min-weight micros k strong₀ i₀ strong i = Gathered (reac
 abbrev μ-loop : tie.MeasureT-loop
 μ-loop n lambda t min-weight micros k strong₀ i₀ strong i = k - i
 
-cut-requires : tie.Need-cut-requires Inv-loop μ-loop
-cut-requires c κs = search needs
-
 loop-holds : tie.Need-loop-holds Inv-loop μ-loop
 loop-holds c = gather-starts (c .cut .ensures) (omega arith) refl
-
-mul-m : tie.Need-mul-m Inv-loop μ-loop
-mul-m c = search needs
-
-array-copy-out-m : tie.Need-array-copy-out-m Inv-loop μ-loop
-array-copy-out-m c = search needs
-
-faded-weight-requires : tie.Need-faded-weight-requires Inv-loop μ-loop
-faded-weight-requires c κs = search needs
-
-array-write-strong : tie.Need-array-write-strong Inv-loop μ-loop
-array-write-strong c = search needs
-
-add-i : tie.Need-add-i Inv-loop μ-loop
-add-i c = search needs
-
-loop-less : tie.Need-loop-less Inv-loop μ-loop
-loop-less c = search needs
 
 loop-again : tie.Need-loop-again Inv-loop μ-loop
 loop-again c =
@@ -50,16 +29,5 @@ returns c = gather-ends (c .before .loop .inv) (omega arith)
 pub strong-ones-spec : {M : Type 1} → statement M
 strong-ones-spec =
     tie.close
-    (tie.spec
-    Inv-loop
-    μ-loop
-    cut-requires
-    loop-holds
-    mul-m
-    array-copy-out-m
-    faded-weight-requires
-    array-write-strong
-    add-i
-    loop-less
-    loop-again
-    returns)
+    (tie.spec Inv-loop μ-loop (λ c κs. search needs) loop-holds (λ c. search needs) (λ c. search needs) (λ c κs. search needs)
+    (λ c. search needs) (λ c. search needs) (λ c. search needs) loop-again returns)

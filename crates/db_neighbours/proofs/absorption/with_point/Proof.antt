@@ -21,56 +21,11 @@ abbrev μ-loop : tie.MeasureT-loop
 distances-room : (c : tie.Start Inv-loop μ-loop) → length (c .args .scan .distances) ≡ 64
 distances-room c = sym (length-map (c .args .scan .distances) _) ∙ c .good .1 .1 .1 .0 .1 .1 .0 .1 .0 .1
 
-cut-requires : tie.Need-cut-requires Inv-loop μ-loop
-cut-requires c κs = search needs
-
-newborn-requires : tie.Need-newborn-requires Inv-loop μ-loop
-newborn-requires c κs = search needs
-
-mul-micros : tie.Need-mul-micros Inv-loop μ-loop
-mul-micros c = search needs
-
-array-set-from-micros : tie.Need-array-set-from-micros Inv-loop μ-loop
-array-set-from-micros c = search needs
-
-add-count : tie.Need-add-count Inv-loop μ-loop
-add-count c = search needs
-
-wrapping-add-u64-requires : tie.Need-wrapping-add-u64-requires Inv-loop μ-loop
-wrapping-add-u64-requires c κs = search needs
-
 loop-holds : tie.Need-loop-holds Inv-loop μ-loop
 loop-holds c =
     let e = c .before .before .before .before in
     absorbing-starts _ _ (c .before .before .before .cut .result) _ (e .args .t1) (omega (arith, c .before .before .before .cut .ensures))
     (distances-room e) (omega arith)
-
-mul-if3 : tie.Need-mul-if3 Inv-loop μ-loop
-mul-if3 c = search needs
-
-array-read-if3 : tie.Need-array-read-if3 Inv-loop μ-loop
-array-read-if3 c = search needs
-
-mul-m : tie.Need-mul-m Inv-loop μ-loop
-mul-m c = search needs
-
-array-copy-out-m : tie.Need-array-copy-out-m Inv-loop μ-loop
-array-copy-out-m c = search needs
-
-absorbed-requires : tie.Need-absorbed-requires Inv-loop μ-loop
-absorbed-requires c κs = search needs
-
-mul-micros-2 : tie.Need-mul-micros-2 Inv-loop μ-loop
-mul-micros-2 c = search needs
-
-array-set-from-micros-2 : tie.Need-array-set-from-micros-2 Inv-loop μ-loop
-array-set-from-micros-2 c = search needs
-
-add-i : tie.Need-add-i Inv-loop μ-loop
-add-i c = search needs
-
-loop-less : tie.Need-loop-less Inv-loop μ-loop
-loop-less c = search needs
 
 loop-again : tie.Need-loop-again Inv-loop μ-loop
 loop-again c =
@@ -106,26 +61,6 @@ returns-3 c =
 pub with-point-spec : {M : Type 1} → statement M
 with-point-spec =
     tie.close
-    (tie.spec
-    Inv-loop
-    μ-loop
-    cut-requires
-    newborn-requires
-    mul-micros
-    array-set-from-micros
-    add-count
-    wrapping-add-u64-requires
-    loop-holds
-    mul-if3
-    array-read-if3
-    mul-m
-    array-copy-out-m
-    absorbed-requires
-    mul-micros-2
-    array-set-from-micros-2
-    add-i
-    loop-less
-    loop-again
-    returns
-    returns-2
-    returns-3)
+    (tie.spec Inv-loop μ-loop (λ c κs. search needs) (λ c κs. search needs) (λ c. search needs) (λ c. search needs) (λ c. search needs)
+    (λ c κs. search needs) loop-holds (λ c. search needs) (λ c. search needs) (λ c. search needs) (λ c. search needs) (λ c κs. search needs)
+    (λ c. search needs) (λ c. search needs) (λ c. search needs) (λ c. search needs) loop-again returns returns-2 returns-3)

@@ -21,36 +21,15 @@ Inv-loop n ds k best₀ i₀ best i = (i ≤ k) × (k ≤ 64) × (Distance (fold
 abbrev μ-loop : tie.MeasureT-loop
 μ-loop n ds k best₀ i₀ best i = k - i
 
-cut-requires : tie.Need-cut-requires Inv-loop μ-loop
-cut-requires c κs = search needs
-
 returns : tie.Need-returns Inv-loop μ-loop
 returns c =
     let a = c .before .before .args in
     sym (least-none (a .n) (c .before .cut .result) (a .t1) (c .before .cut .ensures) (omega arith) (omega arith))
 
-array-read-best : tie.Need-array-read-best Inv-loop μ-loop
-array-read-best c = search needs
-
 loop-holds : tie.Need-loop-holds Inv-loop μ-loop
 loop-holds c =
     let a = c .before .before .args in
     (omega arith, omega arith, least-start (a .n) (c .before .cut .result) (a .t1) (c .before .cut .ensures) (omega arith) (omega arith))
-
-mul-min : tie.Need-mul-min Inv-loop μ-loop
-mul-min c = search needs
-
-array-read-min : tie.Need-array-read-min Inv-loop μ-loop
-array-read-min c = search needs
-
-min-requires : tie.Need-min-requires Inv-loop μ-loop
-min-requires c κs = search needs
-
-add-i : tie.Need-add-i Inv-loop μ-loop
-add-i c = search needs
-
-loop-less : tie.Need-loop-less Inv-loop μ-loop
-loop-less c = search needs
 
 loop-again : tie.Need-loop-again Inv-loop μ-loop
 loop-again c =
@@ -72,17 +51,5 @@ returns-2 c =
 pub least-spec : {M : Type 1} → statement M
 least-spec =
     tie.close
-    (tie.spec
-    Inv-loop
-    μ-loop
-    cut-requires
-    returns
-    array-read-best
-    loop-holds
-    mul-min
-    array-read-min
-    min-requires
-    add-i
-    loop-less
-    loop-again
-    returns-2)
+    (tie.spec Inv-loop μ-loop (λ c κs. search needs) returns (λ c. search needs) loop-holds (λ c. search needs) (λ c. search needs)
+    (λ c κs. search needs) (λ c. search needs) (λ c. search needs) loop-again returns-2)

@@ -31,9 +31,6 @@ Inv-loop n x dim r micros end r2 distances₀ ids₀ k₀ i₀ distances ids k i
 abbrev μ-loop : tie.MeasureT-loop
 μ-loop n x dim r micros end r2 distances₀ ids₀ k₀ i₀ distances ids k i = end - i
 
-cut-requires : tie.Need-cut-requires Inv-loop μ-loop
-cut-requires c κs = search needs
-
 loop-holds : tie.Need-loop-holds Inv-loop μ-loop
 loop-holds c =
     let a = c .before .args in
@@ -43,36 +40,6 @@ loop-holds c =
       refl,
       ap (λ (l : List DbMicro). map idOf (retain (isNear (a .r) (take (a .dim) (a .x)) (a .dim)) l)) (cut-start _ (a .n) 64 (a .t1) e (omega arith)),
     )
-
-mul-m : tie.Need-mul-m Inv-loop μ-loop
-mul-m c = search needs
-
-array-copy-out-m : tie.Need-array-copy-out-m Inv-loop μ-loop
-array-copy-out-m c = search needs
-
-sq-euclidean-requires : tie.Need-sq-euclidean-requires Inv-loop μ-loop
-sq-euclidean-requires c κs = search needs
-
-mul-distances : tie.Need-mul-distances Inv-loop μ-loop
-mul-distances c = search needs
-
-array-write-distances : tie.Need-array-write-distances Inv-loop μ-loop
-array-write-distances c = search needs
-
-mul-ids : tie.Need-mul-ids Inv-loop μ-loop
-mul-ids c = search needs
-
-array-set-from-ids : tie.Need-array-set-from-ids Inv-loop μ-loop
-array-set-from-ids c = search needs
-
-add-k : tie.Need-add-k Inv-loop μ-loop
-add-k c = search needs
-
-add-i : tie.Need-add-i Inv-loop μ-loop
-add-i c = search needs
-
-loop-less : tie.Need-loop-less Inv-loop μ-loop
-loop-less c = search needs
 
 loop-again : tie.Need-loop-again Inv-loop μ-loop
 loop-again c =
@@ -101,9 +68,6 @@ loop-again c =
     ))
     (c .if1 .came)
 
-least-requires : tie.Need-least-requires Inv-loop μ-loop
-least-requires c κs = search needs
-
 returns : tie.Need-returns Inv-loop μ-loop
 returns c =
     let k = c .before .before .loop in
@@ -120,21 +84,6 @@ returns c =
 pub scan-for-spec : {M : Type 1} → statement M
 scan-for-spec =
     tie.close
-    (tie.spec
-    Inv-loop
-    μ-loop
-    cut-requires
-    loop-holds
-    mul-m
-    array-copy-out-m
-    sq-euclidean-requires
-    mul-distances
-    array-write-distances
-    mul-ids
-    array-set-from-ids
-    add-k
-    add-i
-    loop-less
-    loop-again
-    least-requires
-    returns)
+    (tie.spec Inv-loop μ-loop (λ c κs. search needs) loop-holds (λ c. search needs) (λ c. search needs) (λ c κs. search needs)
+    (λ c. search needs) (λ c. search needs) (λ c. search needs) (λ c. search needs) (λ c. search needs) (λ c. search needs)
+    (λ c. search needs) loop-again (λ c κs. search needs) returns)

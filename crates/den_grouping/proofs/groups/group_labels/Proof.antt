@@ -13,35 +13,11 @@ use Rattle.den_grouping.proofs.groups.group_labels.Tie as tie
 pool-size : (e : tie.Start) → length (e .args .pool) ≡ 64
 pool-size e = omega arith
 
-cut-requires : tie.Need-cut-requires
-cut-requires c κs = search needs
-
-cut-requires-2 : tie.Need-cut-requires-2
-cut-requires-2 c κs = search needs
-
-close-pairs-requires : tie.Need-close-pairs-requires
-close-pairs-requires c κs = search needs
-
-array-share-prefix-a : tie.Need-array-share-prefix-a
-array-share-prefix-a c = search needs
-
 slice-aggregate-roots : tie.Need-slice-aggregate-roots
 slice-aggregate-roots c = sym (length-take-le _ _ (c .before .close-pairs .ensures .1 .0))
 
-array-share-prefix-b : tie.Need-array-share-prefix-b
-array-share-prefix-b c = search needs
-
 slice-aggregate-roots-2 : tie.Need-slice-aggregate-roots-2
 slice-aggregate-roots-2 c = sym (length-take-le _ _ (c .before .before .close-pairs .ensures .1 .1))
-
-roots-requires : tie.Need-roots-requires
-roots-requires c κs = search needs
-
-faded-weights-requires : tie.Need-faded-weights-requires
-faded-weights-requires c κs = search needs
-
-sums-requires : tie.Need-sums-requires
-sums-requires c κs = search needs
 
 reaching-requires : tie.Need-reaching-requires
 reaching-requires c κs =
@@ -50,9 +26,6 @@ reaching-requires c κs =
       roots-low (c .before .before .before .before .before .before .before .before .before .cut .result) (omega (arith, k)) _ _
           (c .before .before .roots .ensures),
     )
-
-labels-requires : tie.Need-labels-requires
-labels-requires c κs = search needs
 
 returns : tie.Need-returns
 returns c =
@@ -73,17 +46,6 @@ returns c =
 pub group-labels-spec : {M : Type 1} → statement M
 group-labels-spec =
     tie.close
-    (tie.spec
-    cut-requires
-    cut-requires-2
-    close-pairs-requires
-    array-share-prefix-a
-    slice-aggregate-roots
-    array-share-prefix-b
-    slice-aggregate-roots-2
-    roots-requires
-    faded-weights-requires
-    sums-requires
-    reaching-requires
-    labels-requires
-    returns)
+    (tie.spec (λ c κs. search needs) (λ c κs. search needs) (λ c κs. search needs) (λ c. search needs) slice-aggregate-roots
+    (λ c. search needs) slice-aggregate-roots-2 (λ c κs. search needs) (λ c κs. search needs) (λ c κs. search needs) reaching-requires
+    (λ c κs. search needs) returns)

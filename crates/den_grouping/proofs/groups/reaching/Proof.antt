@@ -18,26 +18,11 @@ abbrev μ-loop : tie.MeasureT-loop
 loop-holds : tie.Need-loop-holds Inv-loop μ-loop
 loop-holds c = gather-starts (omega (arith, c .pre .0)) (omega arith) (search needs)
 
-mul-v : tie.Need-mul-v Inv-loop μ-loop
-mul-v c = search needs
-
-array-read-v : tie.Need-array-read-v Inv-loop μ-loop
-array-read-v c = search needs
-
 mul-counts : tie.Need-mul-counts Inv-loop μ-loop
 mul-counts c = omega (arith, c .before .before .pre .1 (c .before .loop .i) (omega arith))
 
 array-read-counts : tie.Need-array-read-counts Inv-loop μ-loop
 array-read-counts c = omega (arith, c .before .before .pre .1 (c .before .loop .i) (omega arith))
-
-array-write-counts : tie.Need-array-write-counts Inv-loop μ-loop
-array-write-counts c = search needs
-
-add-i : tie.Need-add-i Inv-loop μ-loop
-add-i c = search needs
-
-loop-less : tie.Need-loop-less Inv-loop μ-loop
-loop-less c = search needs
 
 loop-again : tie.Need-loop-again Inv-loop μ-loop
 loop-again c = gather-goes (c .before .loop .inv) 0 (c .loop-test .taken) refl
@@ -48,16 +33,5 @@ returns c = gather-ends (c .before .loop .inv) (c .loop-test .left)
 pub reaching-spec : {M : Type 1} → statement M
 reaching-spec =
     tie.close
-    (tie.spec
-    Inv-loop
-    μ-loop
-    loop-holds
-    mul-v
-    array-read-v
-    mul-counts
-    array-read-counts
-    array-write-counts
-    add-i
-    loop-less
-    loop-again
-    returns)
+    (tie.spec Inv-loop μ-loop loop-holds (λ c. search needs) (λ c. search needs) mul-counts array-read-counts (λ c. search needs)
+    (λ c. search needs) (λ c. search needs) loop-again returns)

@@ -31,12 +31,6 @@ pair-row-requires c κs =
       l .inv .b-size,
     )
 
-add-i : tie.Need-add-i Inv-loop μ-loop
-add-i c = search needs
-
-loop-less : tie.Need-loop-less Inv-loop μ-loop
-loop-less c = search needs
-
 loop-again : tie.Need-loop-again Inv-loop μ-loop
 loop-again c =
     let a = c .before .before .before .before .before .args in
@@ -54,4 +48,4 @@ returns c =
 pub close-pairs-spec : {M : Type 1} → statement M
 close-pairs-spec =
     tie.close
-    (tie.spec Inv-loop μ-loop loop-holds pair-row-requires add-i loop-less loop-again returns)
+    (tie.spec Inv-loop μ-loop loop-holds pair-row-requires (λ c. search needs) (λ c. search needs) loop-again returns)

@@ -29,29 +29,11 @@ room c =
     row-room (a .eps2) (a .i) _ (a .dim) (a .n) (a .t1) _ _ (l .a) (l .b) (l .k) (l .j) (l .inv)
     (c .before .before .before .before .before .loop-test .taken) (omega arith) _ (v .result) (v .ensures) (c .if1 .taken)
 
-mul-m : tie.Need-mul-m Inv-loop μ-loop
-mul-m c = search needs
-
-array-copy-out-m : tie.Need-array-copy-out-m Inv-loop μ-loop
-array-copy-out-m c = search needs
-
-add-j : tie.Need-add-j Inv-loop μ-loop
-add-j c = search needs
-
 loop-holds : tie.Need-loop-holds Inv-loop μ-loop
 loop-holds c =
     let e = c .before .before .before in
     let a = e .args in
     row-from (a .eps2) (a .dim) (a .n) (a .i) (a .t1) _ (e .pre .0) (omega arith) (a .a .now) (a .b .now) (a .count) (e .pre .3) (e .pre .4) (e .pre .2)
-
-mul-other-micro : tie.Need-mul-other-micro Inv-loop μ-loop
-mul-other-micro c = search needs
-
-array-copy-out-other-micro : tie.Need-array-copy-out-other-micro Inv-loop μ-loop
-array-copy-out-other-micro c = search needs
-
-sq-euclidean-requires : tie.Need-sq-euclidean-requires Inv-loop μ-loop
-sq-euclidean-requires c κs = search needs
 
 mul-a : tie.Need-mul-a Inv-loop μ-loop
 mul-a c = omega (arith, room c)
@@ -67,12 +49,6 @@ element-write-b c = omega (arith, room c)
 
 add-k : tie.Need-add-k Inv-loop μ-loop
 add-k c = omega (arith, room c)
-
-add-j-2 : tie.Need-add-j-2 Inv-loop μ-loop
-add-j-2 c = search needs
-
-loop-less : tie.Need-loop-less Inv-loop μ-loop
-loop-less c = search needs
 
 loop-again : tie.Need-loop-again Inv-loop μ-loop
 loop-again c =
@@ -96,22 +72,5 @@ returns c =
 pub pair-row-spec : {M : Type 1} → statement M
 pair-row-spec =
     tie.close
-    (tie.spec
-    Inv-loop
-    μ-loop
-    mul-m
-    array-copy-out-m
-    add-j
-    loop-holds
-    mul-other-micro
-    array-copy-out-other-micro
-    sq-euclidean-requires
-    mul-a
-    element-write-a
-    mul-b
-    element-write-b
-    add-k
-    add-j-2
-    loop-less
-    loop-again
-    returns)
+    (tie.spec Inv-loop μ-loop (λ c. search needs) (λ c. search needs) (λ c. search needs) loop-holds (λ c. search needs) (λ c. search needs)
+    (λ c κs. search needs) mul-a element-write-a mul-b element-write-b add-k (λ c. search needs) (λ c. search needs) loop-again returns)

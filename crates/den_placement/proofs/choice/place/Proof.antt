@@ -11,15 +11,6 @@ use Rattle.den_placement.proofs.choice.place.Tie as tie
 sizes : (e : tie.Start) → (length (e .args .potential) ≡ 64) × (length (e .args .outliers) ≡ 64) × (length (e .args .x) ≡ 15)
 sizes e = (omega arith, omega arith, omega arith)
 
-potential-held-requires : tie.Need-potential-held-requires
-potential-held-requires c κs = search needs
-
-try-merge-requires : tie.Need-try-merge-requires
-try-merge-requires c κs = search needs
-
-new-requires : tie.Need-new-requires
-new-requires c κs = search needs
-
 returns : tie.Need-returns
 returns c =
     let k = c .before .before .before .before in
@@ -28,21 +19,6 @@ returns c =
     placed-potential (a .params) (a .t) (a .x) (a .potential) (a .potential-count) (a .outliers) (a .outlier-count)
     _ (k .potential-held .ensures) (p .result) (p .ensures)
     (c .new .result) (c .new .ensures) (c .before .before .if1 .taken)
-
-outliers-held-requires : tie.Need-outliers-held-requires
-outliers-held-requires c κs = search needs
-
-try-merge-requires-2 : tie.Need-try-merge-requires-2
-try-merge-requires-2 c κs = search needs
-
-smaller-requires : tie.Need-smaller-requires
-smaller-requires c κs = search needs
-
-grown-requires : tie.Need-grown-requires
-grown-requires c κs = search needs
-
-new-requires-2 : tie.Need-new-requires-2
-new-requires-2 c κs = search needs
 
 returns-2 : tie.Need-returns-2
 returns-2 c =
@@ -55,18 +31,6 @@ returns-2 c =
     (c .before .before .before .before .before .before .before .if1 .left) _ (c .before .before .before .before .before .before .outliers-held .ensures)
     (o .result) (o .ensures) _ (c .before .before .before .before .smaller .ensures) (c .new2 .result) _ (c .before .grown .ensures)
     (c .new2 .ensures) (c .before .before .before .if2 .taken)
-
-cut-requires : tie.Need-cut-requires
-cut-requires c κs = search needs
-
-newborn-requires : tie.Need-newborn-requires
-newborn-requires c κs = search needs
-
-add-if3 : tie.Need-add-if3
-add-if3 c = search needs
-
-new-requires-3 : tie.Need-new-requires-3
-new-requires-3 c κs = search needs
 
 returns-3 : tie.Need-returns-3
 returns-3 c =
@@ -82,9 +46,6 @@ returns-3 c =
     (o .result) (o .ensures) _ (c .before .before .before .before .before .smaller .ensures) (c .new3 .result)
     (z .0) (z .1) (z .2) _ (c .before .before .before .cut .ensures) _ (c .before .before .newborn .ensures)
     (c .before .before .before .before .if2 .left) (c .new3 .ensures) (c .before .if3 .taken)
-
-new-requires-4 : tie.Need-new-requires-4
-new-requires-4 c κs = search needs
 
 returns-4 : tie.Need-returns-4
 returns-4 c =
@@ -104,21 +65,6 @@ returns-4 c =
 pub place-spec : {M : Type 1} → statement M
 place-spec =
     tie.close
-    (tie.spec
-    potential-held-requires
-    try-merge-requires
-    new-requires
-    returns
-    outliers-held-requires
-    try-merge-requires-2
-    smaller-requires
-    grown-requires
-    new-requires-2
-    returns-2
-    cut-requires
-    newborn-requires
-    add-if3
-    new-requires-3
-    returns-3
-    new-requires-4
-    returns-4)
+    (tie.spec (λ c κs. search needs) (λ c κs. search needs) (λ c κs. search needs) returns (λ c κs. search needs) (λ c κs. search needs)
+    (λ c κs. search needs) (λ c κs. search needs) (λ c κs. search needs) returns-2 (λ c κs. search needs) (λ c κs. search needs)
+    (λ c. search needs) (λ c κs. search needs) returns-3 (λ c κs. search needs) returns-4)

@@ -13,32 +13,8 @@ Inv-loop n lambda t pool k w₀ i₀ w i = Gathered (weightOf lambda t) 64 n k p
 abbrev μ-loop : tie.MeasureT-loop
 μ-loop n lambda t pool k w₀ i₀ w i = k - i
 
-cut-requires : tie.Need-cut-requires Inv-loop μ-loop
-cut-requires c κs = search needs
-
 loop-holds : tie.Need-loop-holds Inv-loop μ-loop
 loop-holds c = gather-starts (c .cut .ensures) (omega arith) (search needs)
-
-mul-m : tie.Need-mul-m Inv-loop μ-loop
-mul-m c = search needs
-
-array-copy-out-m : tie.Need-array-copy-out-m Inv-loop μ-loop
-array-copy-out-m c = search needs
-
-faded-weight-requires : tie.Need-faded-weight-requires Inv-loop μ-loop
-faded-weight-requires c κs = search needs
-
-mul-w : tie.Need-mul-w Inv-loop μ-loop
-mul-w c = search needs
-
-array-write-w : tie.Need-array-write-w Inv-loop μ-loop
-array-write-w c = search needs
-
-add-i : tie.Need-add-i Inv-loop μ-loop
-add-i c = search needs
-
-loop-less : tie.Need-loop-less Inv-loop μ-loop
-loop-less c = search needs
 
 loop-again : tie.Need-loop-again Inv-loop μ-loop
 loop-again c = gather-goes (c .before .before .before .before .loop .inv) _ (c .before .before .before .loop-test .taken) (c .faded-weight .ensures)
@@ -49,17 +25,5 @@ returns c = gather-ends (c .before .loop .inv) (c .loop-test .left)
 pub faded-weights-spec : {M : Type 1} → statement M
 faded-weights-spec =
     tie.close
-    (tie.spec
-    Inv-loop
-    μ-loop
-    cut-requires
-    loop-holds
-    mul-m
-    array-copy-out-m
-    faded-weight-requires
-    mul-w
-    array-write-w
-    add-i
-    loop-less
-    loop-again
-    returns)
+    (tie.spec Inv-loop μ-loop (λ c κs. search needs) loop-holds (λ c. search needs) (λ c. search needs) (λ c κs. search needs)
+    (λ c. search needs) (λ c. search needs) (λ c. search needs) (λ c. search needs) loop-again returns)

@@ -3,14 +3,8 @@ use borrow.Author.Needs.{needs}
 use Rattle.den_pool.proofs.pruning.outlier_needs.Statement.{statement}
 use Rattle.den_pool.proofs.pruning.outlier_needs.Tie as tie
 
-exp2-requires : tie.Need-exp2-requires
-exp2-requires c κs = search needs
-
-exp2-requires-2 : tie.Need-exp2-requires-2
-exp2-requires-2 c κs = search needs
-
 returns : tie.Need-returns
 returns c = rw (c .exp22 .ensures, c .before .before .exp2 .ensures)
 
 pub outlier-needs-spec : {M : Type 1} → statement M
-outlier-needs-spec = tie.close (tie.spec exp2-requires exp2-requires-2 returns)
+outlier-needs-spec = tie.close (tie.spec (λ c κs. search needs) (λ c κs. search needs) returns)

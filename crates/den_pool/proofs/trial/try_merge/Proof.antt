@@ -6,24 +6,6 @@ use Rattle.den_pool.proofs.Tries.{tried-none, found-here, tried-some}
 use Rattle.den_pool.proofs.trial.try_merge.Statement.{statement}
 use Rattle.den_pool.proofs.trial.try_merge.Tie as tie
 
-cut-requires : tie.Need-cut-requires
-cut-requires c κs = search needs
-
-distances-requires : tie.Need-distances-requires
-distances-requires c κs = search needs
-
-nearest-requires : tie.Need-nearest-requires
-nearest-requires c κs = search needs
-
-enum-known-found : tie.Need-enum-known-found
-enum-known-found c = search needs
-
-enum-told : tie.Need-enum-told
-enum-told c = search needs
-
-newborn-requires : tie.Need-newborn-requires
-newborn-requires c κs = search needs
-
 returns : tie.Need-returns
 returns c =
     let k = c .before .before .before .before in
@@ -54,12 +36,6 @@ array-copy-out-m c =
           _ _ (c .before .found .given .1),
     )
 
-absorbed-requires : tie.Need-absorbed-requires
-absorbed-requires c κs = search needs
-
-stands-requires : tie.Need-stands-requires
-stands-requires c κs = search needs
-
 returns-2 : tie.Need-returns-2
 returns-2 c =
     let k = c .before .before .before .before .before .before .before in
@@ -72,16 +48,5 @@ returns-2 c =
 pub try-merge-spec : {M : Type 1} → statement M
 try-merge-spec =
     tie.close
-    (tie.spec
-    cut-requires
-    distances-requires
-    nearest-requires
-    enum-known-found
-    enum-told
-    newborn-requires
-    returns
-    mul-m
-    array-copy-out-m
-    absorbed-requires
-    stands-requires
-    returns-2)
+    (tie.spec (λ c κs. search needs) (λ c κs. search needs) (λ c κs. search needs) (λ c. search needs) (λ c. search needs)
+    (λ c κs. search needs) returns mul-m array-copy-out-m (λ c κs. search needs) (λ c κs. search needs) returns-2)

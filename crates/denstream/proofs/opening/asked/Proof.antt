@@ -7,12 +7,6 @@ use Rattle.denstream.proofs.Openings.{asked-of}
 use Rattle.denstream.proofs.opening.asked.Statement.{statement}
 use Rattle.denstream.proofs.opening.asked.Tie as tie
 
-asked-requires : tie.Need-asked-requires
-asked-requires c κs = search needs
-
-is-open-requires : tie.Need-is-open-requires
-is-open-requires c κs = search needs
-
 returns : tie.Need-returns
 returns c =
     let p = c .before .before .before .args .settings in
@@ -35,4 +29,4 @@ returns-3 c =
     asked-of p (five .result) true false (five .ensures) asks (c .if2 .left)
 
 pub asked-spec : {M : Type 1} → statement M
-asked-spec = tie.close (tie.spec asked-requires is-open-requires returns returns-2 returns-3)
+asked-spec = tie.close (tie.spec (λ c κs. search needs) (λ c κs. search needs) returns returns-2 returns-3)

@@ -13,28 +13,10 @@ use borrow.Author.Needs.{needs}
 use Rattle.drift.proofs.DriftMonitor.observe.Statement.{statement}
 use Rattle.drift.proofs.DriftMonitor.observe.Tie as tie
 
-enum-known-nearest : tie.Need-enum-known-nearest
-enum-known-nearest c = search needs
-
-enum-told : tie.Need-enum-told
-enum-told c = search needs
-
 returns : tie.Need-returns
 returns c =
     let a = c .before .before .args in
     (sym (ap (λ (n : Nearest). observeOf (view (a .self)) n (a .t)) (c .enum-told .given .1)), (λ e. refl))
-
-sqrt-requires : tie.Need-sqrt-requires
-sqrt-requires c κs = search needs
-
-update-requires : tie.Need-update-requires
-update-requires c κs = search needs
-
-rings-requires : tie.Need-rings-requires
-rings-requires c κs = search needs
-
-wrapping-add-u64-requires : tie.Need-wrapping-add-u64-requires
-wrapping-add-u64-requires c κs = search needs
 
 abbrev distance : tie.After-update → tie.After-nearest
 distance c = c .before .before .before .before .before
@@ -74,4 +56,5 @@ returns-3 c =
 pub observe-spec : {M : Type 1} → statement M
 observe-spec =
     tie.close
-    (tie.spec enum-known-nearest enum-told returns sqrt-requires update-requires rings-requires wrapping-add-u64-requires returns-2 returns-3)
+    (tie.spec (λ c. search needs) (λ c. search needs) returns (λ c κs. search needs) (λ c κs. search needs) (λ c κs. search needs)
+    (λ c κs. search needs) returns-2 returns-3)

@@ -17,9 +17,6 @@ Inv-loop dim a b n s₀ i₀ s i = (i ≤ n) × (sumFrom s (rest n i a) (rest n 
 abbrev μ-loop : tie.MeasureT-loop
 μ-loop dim a b n s₀ i₀ s i = n - i
 
-cut-requires : tie.Need-cut-requires Inv-loop μ-loop
-cut-requires c κs = search needs
-
 loop-holds : tie.Need-loop-holds Inv-loop μ-loop
 loop-holds c =
     let a = c .before .args in (
@@ -27,24 +24,6 @@ loop-holds c =
       ap₂ (sumFrom _) (cut-start (c .cut .result) (a .dim) 15 (a .t1) (c .cut .ensures) (omega arith))
           (cut-start (c .cut .result) (a .dim) 15 (a .t2) (c .cut .ensures) (omega arith)),
     )
-
-mul-d : tie.Need-mul-d Inv-loop μ-loop
-mul-d c = search needs
-
-array-read-d : tie.Need-array-read-d Inv-loop μ-loop
-array-read-d c = search needs
-
-mul-d-2 : tie.Need-mul-d-2 Inv-loop μ-loop
-mul-d-2 c = search needs
-
-array-read-d-2 : tie.Need-array-read-d-2 Inv-loop μ-loop
-array-read-d-2 c = search needs
-
-add-i : tie.Need-add-i Inv-loop μ-loop
-add-i c = search needs
-
-loop-less : tie.Need-loop-less Inv-loop μ-loop
-loop-less c = search needs
 
 loop-again : tie.Need-loop-again Inv-loop μ-loop
 loop-again c =
@@ -62,4 +41,5 @@ returns c =
 
 pub sq-euclidean-spec : {M : Type 1} → statement M
 sq-euclidean-spec =
-    tie.close (tie.spec Inv-loop μ-loop cut-requires loop-holds mul-d array-read-d mul-d-2 array-read-d-2 add-i loop-less loop-again returns)
+    tie.close (tie.spec Inv-loop μ-loop (λ c κs. search needs) loop-holds (λ c. search needs) (λ c. search needs) (λ c. search needs)
+    (λ c. search needs) (λ c. search needs) (λ c. search needs) loop-again returns)

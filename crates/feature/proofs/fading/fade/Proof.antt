@@ -5,13 +5,10 @@ use Rattle.feature.specs.Laws.Fade.{fade-is-share}
 use Rattle.feature.proofs.fading.fade.Statement.{statement}
 use Rattle.feature.proofs.fading.fade.Tie as tie
 
-exp2-requires : tie.Need-exp2-requires
-exp2-requires c κs = search needs
-
 returns : tie.Need-returns
 returns c =
     let a = c .before .args in
     rw (c .exp2 .ensures) (refl, fade-is-share (a .lambda) (a .t) (a .last))
 
 pub fade-spec : {M : Type 1} → statement M
-fade-spec = tie.close (tie.spec exp2-requires returns)
+fade-spec = tie.close (tie.spec (λ c κs. search needs) returns)

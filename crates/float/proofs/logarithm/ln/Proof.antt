@@ -26,9 +26,6 @@ at-least c = c .before .before .if1 .taken
 is-finite : (c : tie.Then2) → isFinite (c .before .before .before .args .v) ≡ true
 is-finite c = sym (c .before .is-finite .ensures) ∙ c .if2 .taken
 
-is-finite-requires : tie.Need-is-finite-requires
-is-finite-requires c κs = search needs
-
 exponent-requires : tie.Need-exponent-requires
 exponent-requires c κs = (subst T (sym (at-least c)) tt, subst T (sym (is-finite c)) tt)
 
@@ -40,9 +37,6 @@ unfolding inFloat
 int-to-float-result c =
     let at-exponent = c .before .before in
     le→leb (at-exponent .exponent .result) 0x20_0000_0000_0000 (omega (arith, at-exponent .exponent .ensures .1))
-
-log-series-requires : tie.Need-log-series-requires
-log-series-requires c κs = search needs
 
 returns : tie.Need-returns
 unfolding lnBy ofBits
@@ -67,4 +61,5 @@ returns-3 c = sym (ln-case (c .before .args .v) false (isFinite (c .before .args
 
 pub ln-spec : {M : Type 1} → statement M
 ln-spec =
-    tie.close (tie.spec is-finite-requires exponent-requires power-up-requires int-to-float-result log-series-requires returns returns-2 returns-3)
+    tie.close (tie.spec (λ c κs. search needs) exponent-requires power-up-requires int-to-float-result (λ c κs. search needs) returns returns-2
+    returns-3)

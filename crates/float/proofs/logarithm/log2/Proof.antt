@@ -4,12 +4,9 @@ use Rattle.float.specs.Ln.{log2Of}
 use Rattle.float.proofs.logarithm.log2.Statement.{statement}
 use Rattle.float.proofs.logarithm.log2.Tie as tie
 
-ln-requires : tie.Need-ln-requires
-ln-requires c κs = search needs
-
 returns : tie.Need-returns
 unfolding log2Of
 returns c = rw (c .ln .ensures)
 
 pub log2-spec : {M : Type 1} → statement M
-log2-spec = tie.close (tie.spec ln-requires returns)
+log2-spec = tie.close (tie.spec (λ c κs. search needs) returns)

@@ -4,12 +4,6 @@ use Rattle.float.proofs.PowerBits.{power-up-bits, power-up-no-nan}
 use Rattle.float.proofs.logarithm.power_up.Statement.{statement}
 use Rattle.float.proofs.logarithm.power_up.Tie as tie
 
-add-result : tie.Need-add-result
-add-result c = search needs
-
-mul-result : tie.Need-mul-result
-mul-result c = search needs
-
 float-from-bits-result : tie.Need-float-from-bits-result
 float-from-bits-result c = power-up-no-nan (c .args .e) (c .pre)
 
@@ -17,4 +11,4 @@ returns : tie.Need-returns
 returns c = power-up-bits (c .args .e) (c .pre)
 
 pub power-up-spec : {M : Type 1} → statement M
-power-up-spec = tie.close (tie.spec add-result mul-result float-from-bits-result returns)
+power-up-spec = tie.close (tie.spec (λ c. search needs) (λ c. search needs) float-from-bits-result returns)

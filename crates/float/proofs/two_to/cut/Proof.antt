@@ -17,15 +17,6 @@ returns : tie.Need-returns
 unfolding ofBits neg
 returns c = sym (known (c .before) .below (c .if1 .taken))
 
-add-digits : tie.Need-add-digits
-add-digits c = search needs
-
-sub-result : tie.Need-sub-result
-sub-result c = search needs
-
-shr-result : tie.Need-shr-result
-shr-result c = search needs
-
 int-to-float-result : tie.Need-int-to-float-result
 unfolding inFloat
 int-to-float-result c =
@@ -42,4 +33,4 @@ returns-3 : tie.Need-returns-3
 returns-3 c = sym (known (c .before .before) .beyond (c .if2 .left))
 
 pub cut-spec : {M : Type 1} → statement M
-cut-spec = tie.close (tie.spec float-to-bits-bits returns add-digits sub-result shr-result int-to-float-result returns-2 returns-3)
+cut-spec = tie.close (tie.spec float-to-bits-bits returns (λ c. search needs) (λ c. search needs) (λ c. search needs) int-to-float-result returns-2 returns-3)

@@ -47,9 +47,6 @@ truncating-f64-to-u64-requires c κs = (small c .over, small c .under)
 number : (c : tie.After-truncating-f64-to-u64) → c .truncating-f64-to-u64 .result ≡ wholes (c .before .before .cut .result)
 number c = c .truncating-f64-to-u64 .ensures ∙ small (c .before) .number
 
-horner-requires : tie.Need-horner-requires
-horner-requires c κs = search needs
-
 power-down-requires : tie.Need-power-down-requires
 power-down-requires c κs = rw (number (c .before)) (small (c .before .before) .small)
 
@@ -68,4 +65,4 @@ returns-3 c = sym (by-tests (c .before .args .y) (cutOf (c .before .args .y)) fa
 
 pub exp2-spec : {M : Type 1} → statement M
 exp2-spec =
-    tie.close (tie.spec cut-requires returns truncating-f64-to-u64-requires horner-requires power-down-requires returns-2 returns-3)
+    tie.close (tie.spec cut-requires returns truncating-f64-to-u64-requires (λ c κs. search needs) power-down-requires returns-2 returns-3)

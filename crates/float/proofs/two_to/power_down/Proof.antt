@@ -4,12 +4,6 @@ use Rattle.float.proofs.PowerBits.{power-bits, power-no-nan}
 use Rattle.float.proofs.two_to.power_down.Statement.{statement}
 use Rattle.float.proofs.two_to.power_down.Tie as tie
 
-sub-result : tie.Need-sub-result
-sub-result c = search needs
-
-mul-result : tie.Need-mul-result
-mul-result c = search needs
-
 float-from-bits-result : tie.Need-float-from-bits-result
 float-from-bits-result c = power-no-nan (c .args .c) (c .pre)
 
@@ -17,4 +11,4 @@ returns : tie.Need-returns
 returns c = power-bits (c .args .c) (c .pre)
 
 pub power-down-spec : {M : Type 1} → statement M
-power-down-spec = tie.close (tie.spec sub-result mul-result float-from-bits-result returns)
+power-down-spec = tie.close (tie.spec (λ c. search needs) (λ c. search needs) float-from-bits-result returns)

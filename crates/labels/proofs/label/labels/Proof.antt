@@ -17,32 +17,8 @@ Inv-loop n roots mask end labels₀ met₀ count₀ i₀ labels met count i = La
 abbrev μ-loop : tie.MeasureT-loop
 μ-loop n roots mask end labels₀ met₀ count₀ i₀ labels met count i = end - i
 
-cut-requires : tie.Need-cut-requires Inv-loop μ-loop
-cut-requires c κs = search needs
-
 loop-holds : tie.Need-loop-holds Inv-loop μ-loop
 loop-holds c = let a = c .before .args in labels-start (a .t2) (a .t1) (c .cut .result)
-
-array-read-if1 : tie.Need-array-read-if1 Inv-loop μ-loop
-array-read-if1 c = search needs
-
-mul-v : tie.Need-mul-v Inv-loop μ-loop
-mul-v c = search needs
-
-array-read-v : tie.Need-array-read-v Inv-loop μ-loop
-array-read-v c = search needs
-
-place-in-requires : tie.Need-place-in-requires Inv-loop μ-loop
-place-in-requires c κs = search needs
-
-mul-met : tie.Need-mul-met Inv-loop μ-loop
-mul-met c = search needs
-
-array-write-met : tie.Need-array-write-met Inv-loop μ-loop
-array-write-met c = search needs
-
-add-count : tie.Need-add-count Inv-loop μ-loop
-add-count c = search needs
 
 label-requires : tie.Need-label-requires Inv-loop μ-loop
 label-requires c κs =
@@ -55,18 +31,6 @@ label-requires c κs =
       place-most (getD (start .args .t1) (l .i) 0) (l .count) (l .met),
       l .inv .few,
     )
-
-mul-labels : tie.Need-mul-labels Inv-loop μ-loop
-mul-labels c = search needs
-
-array-set-from-labels : tie.Need-array-set-from-labels Inv-loop μ-loop
-array-set-from-labels c = search needs
-
-add-i : tie.Need-add-i Inv-loop μ-loop
-add-i c = search needs
-
-loop-less : tie.Need-loop-less Inv-loop μ-loop
-loop-less c = search needs
 
 loop-again : tie.Need-loop-again Inv-loop μ-loop
 loop-again c =
@@ -102,5 +66,6 @@ returns c =
 pub labels-spec : {M : Type 1} → statement M
 labels-spec =
     tie.close
-    (tie.spec Inv-loop μ-loop cut-requires loop-holds array-read-if1 mul-v array-read-v place-in-requires mul-met array-write-met add-count
-    label-requires mul-labels array-set-from-labels add-i loop-less loop-again returns)
+    (tie.spec Inv-loop μ-loop (λ c κs. search needs) loop-holds (λ c. search needs) (λ c. search needs) (λ c. search needs)
+    (λ c κs. search needs) (λ c. search needs) (λ c. search needs) (λ c. search needs) label-requires (λ c. search needs)
+    (λ c. search needs) (λ c. search needs) (λ c. search needs) loop-again returns)

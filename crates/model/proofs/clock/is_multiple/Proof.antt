@@ -18,19 +18,10 @@ none (suc n) k h = absurd (omega (arith, h))
 some : (n k : ℕ) → n ≢ 0 → eqb (k % n) 0 ≡ cond (eqb n 0) false (eqb (k % n) 0)
 some n k h = rw (ne-eqb n 0 h)
 
-ticks-requires : tie.Need-ticks-requires
-ticks-requires c κs = search needs
-
 returns : tie.Need-returns
 returns c =
     let a = c .before .before .args in
     none (ticksOf (a .period)) (ticksOf (a .t)) (sym (c .before .ticks .ensures) ∙ c .if1 .taken)
-
-ticks-requires-2 : tie.Need-ticks-requires-2
-ticks-requires-2 c κs = search needs
-
-rem-result : tie.Need-rem-result
-rem-result c = search needs
 
 returns-2 : tie.Need-returns-2
 returns-2 c =
@@ -39,4 +30,4 @@ returns-2 c =
 
 pub is-multiple-spec : {M : Type 1} → statement M
 is-multiple-spec =
-    tie.close (tie.spec ticks-requires returns ticks-requires-2 rem-result returns-2)
+    tie.close (tie.spec (λ c κs. search needs) returns (λ c κs. search needs) (λ c. search needs) returns-2)

@@ -18,29 +18,8 @@ Inv-loop x n p₀ i₀ p i = (i ≤ n) × (length p ≡ maxDim) × (p ≡ take i
 abbrev μ-loop : tie.MeasureT-loop
 μ-loop x n p₀ i₀ p i = n - i
 
-cut-requires : tie.Need-cut-requires Inv-loop μ-loop
-cut-requires c κs = search needs
-
 loop-holds : tie.Need-loop-holds Inv-loop μ-loop
 loop-holds c = (search needs, search needs, refl)
-
-mul-p : tie.Need-mul-p Inv-loop μ-loop
-mul-p c = search needs
-
-shared-slice-read-p : tie.Need-shared-slice-read-p Inv-loop μ-loop
-shared-slice-read-p c = search needs
-
-mul-p-2 : tie.Need-mul-p-2 Inv-loop μ-loop
-mul-p-2 c = search needs
-
-array-write-p : tie.Need-array-write-p Inv-loop μ-loop
-array-write-p c = search needs
-
-add-i : tie.Need-add-i Inv-loop μ-loop
-add-i c = search needs
-
-loop-less : tie.Need-loop-less Inv-loop μ-loop
-loop-less c = search needs
 
 loop-again : tie.Need-loop-again Inv-loop μ-loop
 loop-again c =
@@ -63,16 +42,5 @@ returns c =
 pub padded-spec : {M : Type 1} → statement M
 padded-spec =
     tie.close
-    (tie.spec
-    Inv-loop
-    μ-loop
-    cut-requires
-    loop-holds
-    mul-p
-    shared-slice-read-p
-    mul-p-2
-    array-write-p
-    add-i
-    loop-less
-    loop-again
-    returns)
+    (tie.spec Inv-loop μ-loop (λ c κs. search needs) loop-holds (λ c. search needs) (λ c. search needs) (λ c. search needs)
+    (λ c. search needs) (λ c. search needs) (λ c. search needs) loop-again returns)

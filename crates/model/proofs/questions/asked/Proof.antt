@@ -27,16 +27,10 @@ dim-in-range-requires c κs = search needs
 returns : tie.Need-returns
 returns c = rw (sym (c .before .dim-in-range .ensures) ∙ not-true _ (c .if1 .taken))
 
-positive-requires : tie.Need-positive-requires
-positive-requires c κs = search needs
-
 returns-2 : tie.Need-returns-2
 returns-2 c =
     let radius = c .before in
     rw (yes-dim radius, sym (radius .positive .ensures) ∙ not-true _ (c .if2 .taken))
-
-lambda-in-range-requires : tie.Need-lambda-in-range-requires
-lambda-in-range-requires c κs = search needs
 
 returns-3 : tie.Need-returns-3
 returns-3 c =
@@ -44,18 +38,12 @@ returns-3 c =
     let radius = lambda .before .before in
     rw (yes-dim radius, yes-radius lambda, sym (lambda .lambda-in-range .ensures) ∙ not-true _ (c .if3 .taken))
 
-share-in-range-requires : tie.Need-share-in-range-requires
-share-in-range-requires c κs = search needs
-
 returns-4 : tie.Need-returns-4
 returns-4 c =
     let share = c .before in
     let lambda = share .before .before in
     let radius = lambda .before .before in
     rw (yes-dim radius, yes-radius lambda, yes-lambda share, sym (share .share-in-range .ensures) ∙ not-true _ (c .if4 .taken))
-
-positive-requires-2 : tie.Need-positive-requires-2
-positive-requires-2 c κs = search needs
 
 returns-5 : tie.Need-returns-5
 returns-5 c =
@@ -76,15 +64,5 @@ returns-6 c =
 pub asked-spec : {M : Type 1} → statement M
 asked-spec =
     tie.close
-    (tie.spec
-    dim-in-range-requires
-    returns
-    positive-requires
-    returns-2
-    lambda-in-range-requires
-    returns-3
-    share-in-range-requires
-    returns-4
-    positive-requires-2
-    returns-5
-    returns-6)
+    (tie.spec dim-in-range-requires returns (λ c κs. search needs) returns-2 (λ c κs. search needs) returns-3 (λ c κs. search needs)
+    returns-4 (λ c κs. search needs) returns-5 returns-6)

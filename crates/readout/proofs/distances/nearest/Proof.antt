@@ -19,17 +19,11 @@ Inv-loop n distances end place₀ dist₀ i₀ place dist i = (i ≤ end) × (fo
 abbrev μ-loop : tie.MeasureT-loop
 μ-loop n distances end place₀ dist₀ i₀ place dist i = end - i
 
-cut-requires : tie.Need-cut-requires Inv-loop μ-loop
-cut-requires c κs = search needs
-
 returns : tie.Need-returns Inv-loop μ-loop
 returns c =
     let a = c .before .before .args in
     let end = c .before .cut in
     sym (found-none (a .t1) (end .result) (c .if1 .taken)) ∙ ap nearestAmong (cut-take (end .result) (a .n) microsMost (a .t1) (end .ensures) (omega arith))
-
-array-read-dist : tie.Need-array-read-dist Inv-loop μ-loop
-array-read-dist c = search needs
 
 loop-holds : tie.Need-loop-holds Inv-loop μ-loop
 loop-holds c =
@@ -38,18 +32,6 @@ loop-holds c =
     let h : end .result ≤ length (a .t1) = omega arith in
     let k : 0 < end .result = omega arith in
     (omega arith, sym (found-start (end .result) (a .t1) h k) ∙ ap nearestAmong (cut-take (end .result) (a .n) microsMost (a .t1) (end .ensures) (omega arith)))
-
-mul-d : tie.Need-mul-d Inv-loop μ-loop
-mul-d c = search needs
-
-array-read-d : tie.Need-array-read-d Inv-loop μ-loop
-array-read-d c = search needs
-
-add-i : tie.Need-add-i Inv-loop μ-loop
-add-i c = search needs
-
-loop-less : tie.Need-loop-less Inv-loop μ-loop
-loop-less c = search needs
 
 loop-again : tie.Need-loop-again Inv-loop μ-loop
 loop-again c =
@@ -78,4 +60,5 @@ returns-2 c =
 
 pub nearest-spec : {M : Type 1} → statement M
 nearest-spec =
-    tie.close (tie.spec Inv-loop μ-loop cut-requires returns array-read-dist loop-holds mul-d array-read-d add-i loop-less loop-again returns-2)
+    tie.close (tie.spec Inv-loop μ-loop (λ c κs. search needs) returns (λ c. search needs) loop-holds (λ c. search needs) (λ c. search needs)
+    (λ c. search needs) (λ c. search needs) loop-again returns-2)

@@ -14,25 +14,10 @@ counted :
     (c .before .before .args .label-count) (c .before .cut .result)
 counted c = record { end-is = c .cut2 .ensures; ds-long = omega arith; count-is = c .before .cut .ensures; labels-long = omega arith }
 
-cut-requires : tie.Need-cut-requires
-cut-requires c κs = search needs
-
-cut-requires-2 : tie.Need-cut-requires-2
-cut-requires-2 c κs = search needs
-
 returns : tie.Need-returns
 returns c =
     let start = c .before .before .before in
     label-differ (start .args .radius2) (counted (c .before)) (c .if1 .taken)
-
-nearest-requires : tie.Need-nearest-requires
-nearest-requires c κs = search needs
-
-enum-known-found : tie.Need-enum-known-found
-enum-known-found c = search needs
-
-enum-told : tie.Need-enum-told
-enum-told c = search needs
 
 returns-2 : tie.Need-returns-2
 returns-2 c =
@@ -84,5 +69,5 @@ returns-4 c =
 pub label-for-spec : {M : Type 1} → statement M
 label-for-spec =
     tie.close
-    (tie.spec cut-requires cut-requires-2 returns nearest-requires enum-known-found enum-told returns-2 mul-result array-copy-out-result returns-3
-    returns-4)
+    (tie.spec (λ c κs. search needs) (λ c κs. search needs) returns (λ c κs. search needs) (λ c. search needs) (λ c. search needs) returns-2
+    mul-result array-copy-out-result returns-3 returns-4)

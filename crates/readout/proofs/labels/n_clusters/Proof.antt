@@ -25,37 +25,10 @@ Inv-loop count labels end n₀ i₀ n i = (i ≤ end) × (n ≤ i) × (n + clust
 abbrev μ-loop : tie.MeasureT-loop
 μ-loop count labels end n₀ i₀ n i = end - i
 
-cut-requires : tie.Need-cut-requires Inv-loop μ-loop
-cut-requires c κs = search needs
-
 loop-holds : tie.Need-loop-holds Inv-loop μ-loop
 loop-holds c =
     let a = c .before .args in
     (omega arith, omega arith, omega (arith, ap clustersIn (cut-start (c .cut .result) (a .count) microsMost (a .t1) (c .cut .ensures) (omega arith))))
-
-mul-label : tie.Need-mul-label Inv-loop μ-loop
-mul-label c = search needs
-
-array-copy-out-label : tie.Need-array-copy-out-label Inv-loop μ-loop
-array-copy-out-label c = search needs
-
-same-family-requires : tie.Need-same-family-requires Inv-loop μ-loop
-same-family-requires c κs = search needs
-
-add-stands-from : tie.Need-add-stands-from Inv-loop μ-loop
-add-stands-from c = search needs
-
-stands-from-requires : tie.Need-stands-from-requires Inv-loop μ-loop
-stands-from-requires c κs = search needs
-
-add-n : tie.Need-add-n Inv-loop μ-loop
-add-n c = search needs
-
-add-i : tie.Need-add-i Inv-loop μ-loop
-add-i c = search needs
-
-loop-less : tie.Need-loop-less Inv-loop μ-loop
-loop-less c = search needs
 
 loop-again : tie.Need-loop-again Inv-loop μ-loop
 loop-again c =
@@ -94,5 +67,5 @@ returns c =
 pub n-clusters-spec : {M : Type 1} → statement M
 n-clusters-spec =
     tie.close
-    (tie.spec Inv-loop μ-loop cut-requires loop-holds mul-label array-copy-out-label same-family-requires add-stands-from stands-from-requires add-n
-    add-i loop-less loop-again returns)
+    (tie.spec Inv-loop μ-loop (λ c κs. search needs) loop-holds (λ c. search needs) (λ c. search needs) (λ c κs. search needs)
+    (λ c. search needs) (λ c κs. search needs) (λ c. search needs) (λ c. search needs) (λ c. search needs) loop-again returns)

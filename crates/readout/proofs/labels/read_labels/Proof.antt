@@ -13,21 +13,12 @@ use Rattle.readout.proofs.Slices.{labels-short, labels-written}
 use Rattle.readout.proofs.labels.read_labels.Statement.{statement}
 use Rattle.readout.proofs.labels.read_labels.Tie as tie
 
-cut-requires : tie.Need-cut-requires
-cut-requires c κs = search needs
-
 returns : tie.Need-returns
 returns c =
     let a = c .before .before .args in
     let due : length (take (a .count) (a .labels)) ≡ c .before .cut .result =
     cut-length (a .count) (c .before .cut .result) microsMost (a .labels) (c .before .cut .ensures) (omega arith) in
     labels-short (take (a .count) (a .labels)) (a .out .now) (omega arith)
-
-write-labels-requires : tie.Need-write-labels-requires
-write-labels-requires c κs = search needs
-
-same-length : tie.Need-same-length
-same-length c = search needs
 
 returns-2 : tie.Need-returns-2
 returns-2 c =
@@ -42,4 +33,4 @@ returns-2 c =
 
 pub read-labels-spec : {M : Type 1} → statement M
 read-labels-spec =
-    tie.close (tie.spec cut-requires returns write-labels-requires same-length returns-2)
+    tie.close (tie.spec (λ c κs. search needs) returns (λ c κs. search needs) (λ c. search needs) returns-2)

@@ -25,15 +25,6 @@ abbrev μ-loop : tie.MeasureT-loop
 loop-holds : tie.Need-loop-holds Inv-loop μ-loop
 loop-holds c = refl
 
-mul-same-family : tie.Need-mul-same-family Inv-loop μ-loop
-mul-same-family c = search needs
-
-array-copy-out-same-family : tie.Need-array-copy-out-same-family Inv-loop μ-loop
-array-copy-out-same-family c = search needs
-
-same-family-requires : tie.Need-same-family-requires Inv-loop μ-loop
-same-family-requires c κs = search needs
-
 returns : tie.Need-returns Inv-loop μ-loop
 returns c =
     let at-same-family-arg = c .before .before in
@@ -48,12 +39,6 @@ returns c =
     ∙ c .if1 .taken in
     sym (any-here (a .«end») (l .i) (a .t1) (sameFamily label) (at-test .loop-test .taken) (omega arith) here) ∙ l .inv
     ∙ ap (λ (z : ℤ). any (sameFamily z) (rest (a .«end») (a .start) (a .t1))) (toZ-ofZ (s .fits .label))
-
-add-i : tie.Need-add-i Inv-loop μ-loop
-add-i c = search needs
-
-loop-less : tie.Need-loop-less Inv-loop μ-loop
-loop-less c = search needs
 
 loop-again : tie.Need-loop-again Inv-loop μ-loop
 loop-again c =
@@ -78,4 +63,5 @@ returns-2 c =
 pub stands-from-spec : {M : Type 1} → statement M
 stands-from-spec =
     tie.close
-    (tie.spec Inv-loop μ-loop loop-holds mul-same-family array-copy-out-same-family same-family-requires returns add-i loop-less loop-again returns-2)
+    (tie.spec Inv-loop μ-loop loop-holds (λ c. search needs) (λ c. search needs) (λ c κs. search needs) returns (λ c. search needs)
+    (λ c. search needs) loop-again returns-2)

@@ -21,15 +21,6 @@ abbrev μ-loop : tie.MeasureT-loop
 loop-holds : tie.Need-loop-holds Inv-loop μ-loop
 loop-holds c = (omega arith, refl)
 
-mul-out : tie.Need-mul-out Inv-loop μ-loop
-mul-out c = search needs
-
-array-copy-out-out : tie.Need-array-copy-out-out Inv-loop μ-loop
-array-copy-out-out c = search needs
-
-mul-t11 : tie.Need-mul-t11 Inv-loop μ-loop
-mul-t11 c = search needs
-
 slice-set-from-out : tie.Need-slice-set-from-out Inv-loop μ-loop
 slice-set-from-out c =
     let s = c .before .before .before in
@@ -37,12 +28,6 @@ slice-set-from-out c =
     let l = c .before .before .loop in
     copy-place (take (a .«end») (a .t1)) (a .out .now) (l .out) (a .«end») (length-take-le (a .«end») (a .t1) (omega arith)) (s .pre .1) (l .i)
     (l .inv .1) (c .before .loop-test .taken)
-
-add-i : tie.Need-add-i Inv-loop μ-loop
-add-i c = search needs
-
-loop-less : tie.Need-loop-less Inv-loop μ-loop
-loop-less c = search needs
 
 loop-again : tie.Need-loop-again Inv-loop μ-loop
 loop-again c =
@@ -75,4 +60,5 @@ returns c =
 pub write-labels-spec : {M : Type 1} → statement M
 write-labels-spec =
     tie.close
-    (tie.spec Inv-loop μ-loop loop-holds mul-out array-copy-out-out mul-t11 slice-set-from-out add-i loop-less loop-again same-length returns)
+    (tie.spec Inv-loop μ-loop loop-holds (λ c. search needs) (λ c. search needs) (λ c. search needs) slice-set-from-out (λ c. search needs)
+    (λ c. search needs) loop-again same-length returns)

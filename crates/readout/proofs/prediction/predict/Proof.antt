@@ -10,23 +10,11 @@ use Rattle.readout.proofs.Predicting.{predict-shape, predict-label}
 use Rattle.readout.proofs.prediction.predict.Statement.{statement}
 use Rattle.readout.proofs.prediction.predict.Tie as tie
 
-cut-requires : tie.Need-cut-requires
-cut-requires c κs = search needs
-
 returns : tie.Need-returns
 returns c =
     let a = c .before .before .before .args in
     let w = c .before .cut in
     predict-shape (a .dim) (a .n) (w .result) (w .ensures) (a .radius2) (a .bodies) (take (a .label-count) (a .labels)) (a .x .now) (c .if1 .taken)
-
-padded-requires : tie.Need-padded-requires
-padded-requires c κs = search needs
-
-distances-requires : tie.Need-distances-requires
-distances-requires c κs = search needs
-
-label-for-requires : tie.Need-label-for-requires
-label-for-requires c κs = search needs
 
 returns-2 : tie.Need-returns-2
 returns-2 c =
@@ -42,4 +30,4 @@ returns-2 c =
 pub predict-spec : {M : Type 1} → statement M
 predict-spec =
     tie.close
-    (tie.spec cut-requires returns padded-requires distances-requires label-for-requires returns-2)
+    (tie.spec (λ c κs. search needs) returns (λ c κs. search needs) (λ c κs. search needs) (λ c κs. search needs) returns-2)

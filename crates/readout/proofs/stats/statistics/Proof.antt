@@ -14,12 +14,6 @@ counted c =
     let s = c .before .before .before .before .before in
     record { end-is = c .before .cut .ensures; w-is = c .cut2 .ensures; wide = means-wide (s .args .bodies) _ (s .good .0 .1 .1); long = omega arith }
 
-cut-requires : tie.Need-cut-requires
-cut-requires c κs = search needs
-
-cut-requires-2 : tie.Need-cut-requires-2
-cut-requires-2 c κs = search needs
-
 mul-if1 : tie.Need-mul-if1
 mul-if1 c = omega (arith, few (c .before .cut .result) (c .cut2 .result) (omega arith) (omega arith))
 
@@ -39,21 +33,6 @@ returns-3 c =
     short-radii (a .lambda) (a .t) (counted (c .before .before .before)) (a .centres .now) (a .weights .now) (a .radii .now) (c .before .before .if1 .left)
     (c .before .if2 .left) (c .if3 .taken)
 
-write-centres-requires : tie.Need-write-centres-requires
-write-centres-requires c κs = search needs
-
-write-figures-requires : tie.Need-write-figures-requires
-write-figures-requires c κs = search needs
-
-same-length : tie.Need-same-length
-same-length c = search needs
-
-same-length-2 : tie.Need-same-length-2
-same-length-2 c = search needs
-
-same-length-3 : tie.Need-same-length-3
-same-length-3 c = search needs
-
 returns-4 : tie.Need-returns-4
 returns-4 c =
     let w = c .before .before .before .before in
@@ -67,16 +46,5 @@ returns-4 c =
 pub statistics-spec : {M : Type 1} → statement M
 statistics-spec =
     tie.close
-    (tie.spec
-    cut-requires
-    cut-requires-2
-    mul-if1
-    returns
-    returns-2
-    returns-3
-    write-centres-requires
-    write-figures-requires
-    same-length
-    same-length-2
-    same-length-3
-    returns-4)
+    (tie.spec (λ c κs. search needs) (λ c κs. search needs) mul-if1 returns returns-2 returns-3 (λ c κs. search needs)
+    (λ c κs. search needs) (λ c. search needs) (λ c. search needs) (λ c. search needs) returns-4)

@@ -28,12 +28,6 @@ loop-holds c =
     let a = c .before .args in
     (omega arith, turn-start (a .width) (a .«end») (a .t1) (a .out .now))
 
-mul-b : tie.Need-mul-b Inv-loop μ-loop
-mul-b c = search needs
-
-array-copy-out-b : tie.Need-array-copy-out-b Inv-loop μ-loop
-array-copy-out-b c = search needs
-
 mul-at : tie.Need-mul-at Inv-loop μ-loop
 mul-at c =
     let at-loop = c .before .before .before .before in
@@ -66,19 +60,10 @@ part-write-start c =
     let at-test = c .before .before .before .before in
     omega (arith, turn-room (turn (at-test .before)) (at-test .loop-test .taken))
 
-part-write-end : tie.Need-part-write-end Inv-loop μ-loop
-part-write-end c = search needs
-
 write-requires : tie.Need-write-requires Inv-loop μ-loop
 write-requires c κs =
     let at-test = c .before .before .before .before .before in
     mean-fits (turn (at-test .before)) (at-test .loop-test .taken) _
-
-add-i : tie.Need-add-i Inv-loop μ-loop
-add-i c = search needs
-
-loop-less : tie.Need-loop-less Inv-loop μ-loop
-loop-less c = search needs
 
 loop-again : tie.Need-loop-again Inv-loop μ-loop
 loop-again c =
@@ -97,22 +82,6 @@ returns c = turn-end (turn (c .before)) (omega arith)
 pub write-centres-spec : {M : Type 1} → statement M
 write-centres-spec =
     tie.close
-    (tie.spec
-    Inv-loop
-    μ-loop
-    loop-holds
-    mul-b
-    array-copy-out-b
-    mul-at
-    array-share-prefix-mean
-    slice-aggregate-write
-    mul-write
-    sub-write
-    part-write-start
-    part-write-end
-    write-requires
-    add-i
-    loop-less
-    loop-again
-    same-length
+    (tie.spec Inv-loop μ-loop loop-holds (λ c. search needs) (λ c. search needs) mul-at array-share-prefix-mean slice-aggregate-write
+    mul-write sub-write part-write-start (λ c. search needs) write-requires (λ c. search needs) (λ c. search needs) loop-again same-length
     returns)

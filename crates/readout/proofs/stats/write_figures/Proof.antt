@@ -21,18 +21,6 @@ abbrev μ-loop : tie.MeasureT-loop
 loop-holds : tie.Need-loop-holds Inv-loop μ-loop
 loop-holds c = (omega arith, refl, refl)
 
-mul-b : tie.Need-mul-b Inv-loop μ-loop
-mul-b c = search needs
-
-array-copy-out-b : tie.Need-array-copy-out-b Inv-loop μ-loop
-array-copy-out-b c = search needs
-
-faded-weight-requires : tie.Need-faded-weight-requires Inv-loop μ-loop
-faded-weight-requires c κs = search needs
-
-mul-weights : tie.Need-mul-weights Inv-loop μ-loop
-mul-weights c = search needs
-
 slice-write-weights : tie.Need-slice-write-weights Inv-loop μ-loop
 slice-write-weights c =
     let s = c .before .before .before .before .before .before in
@@ -41,12 +29,6 @@ slice-write-weights c =
     figure-place (fadedWeight (a .lambda) (a .t)) (a .«end») (a .t1) (a .weights .now) (l .weights) (l .i) (omega arith) (s .pre .1) (l .inv .1)
     (c .before .before .loop-test .taken)
 
-radius-requires : tie.Need-radius-requires Inv-loop μ-loop
-radius-requires c κs = search needs
-
-mul-radii : tie.Need-mul-radii Inv-loop μ-loop
-mul-radii c = search needs
-
 slice-write-radii : tie.Need-slice-write-radii Inv-loop μ-loop
 slice-write-radii c =
     let s = c .before .before .before .before .before .before .before in
@@ -54,12 +36,6 @@ slice-write-radii c =
     let l = c .before .before .before .before .loop in
     figure-place radiusOf (a .«end») (a .t1) (a .radii .now) (l .radii) (l .i) (omega arith) (s .pre .2) (l .inv .2)
     (c .before .before .before .loop-test .taken)
-
-add-i : tie.Need-add-i Inv-loop μ-loop
-add-i c = search needs
-
-loop-less : tie.Need-loop-less Inv-loop μ-loop
-loop-less c = search needs
 
 loop-again : tie.Need-loop-again Inv-loop μ-loop
 loop-again c =
@@ -99,21 +75,6 @@ returns c =
 pub write-figures-spec : {M : Type 1} → statement M
 write-figures-spec =
     tie.close
-    (tie.spec
-    Inv-loop
-    μ-loop
-    loop-holds
-    mul-b
-    array-copy-out-b
-    faded-weight-requires
-    mul-weights
-    slice-write-weights
-    radius-requires
-    mul-radii
-    slice-write-radii
-    add-i
-    loop-less
-    loop-again
-    same-length
-    same-length-2
-    returns)
+    (tie.spec Inv-loop μ-loop loop-holds (λ c. search needs) (λ c. search needs) (λ c κs. search needs) (λ c. search needs)
+    slice-write-weights (λ c κs. search needs) (λ c. search needs) slice-write-radii (λ c. search needs) (λ c. search needs) loop-again
+    same-length same-length-2 returns)

@@ -12,12 +12,6 @@ returns-2 : tie.Need-returns-2
 unfolding cutFails
 returns-2 c = rw (c .before .before .if1 .left, c .if2 .taken)
 
-sqrt-requires : tie.Need-sqrt-requires
-sqrt-requires c κs = search needs
-
-apart-requires : tie.Need-apart-requires
-apart-requires c κs = search needs
-
 returns-3 : tie.Need-returns-3
 unfolding cutFails
 returns-3 c =
@@ -26,4 +20,4 @@ returns-3 c =
     rw (test .before .before .if1 .left, test .if2 .left, c .apart .ensures, root .sqrt .ensures)
 
 pub fails-spec : {M : Type 1} → statement M
-fails-spec = tie.close (tie.spec returns returns-2 sqrt-requires apart-requires returns-3)
+fails-spec = tie.close (tie.spec returns returns-2 (λ c κs. search needs) (λ c κs. search needs) returns-3)

@@ -6,15 +6,6 @@ use borrow.Author.Needs.{needs}
 use Rattle.adwin_buckets.proofs.search.Search.past.Statement.{statement}
 use Rattle.adwin_buckets.proofs.search.Search.past.Tie as tie
 
-fails-requires : tie.Need-fails-requires
-fails-requires c κs = search needs
-
-add-self : tie.Need-add-self
-add-self c = search needs
-
-sub-self : tie.Need-sub-self
-sub-self c = search needs
-
 returns : tie.Need-returns
 returns c =
     let a = c .before .before .before .before .before .before .before .args in
@@ -27,4 +18,4 @@ returns-2 c =
     ap (λ (f : Bool). pastIf f (a .self) (a .b)) (sym (k .if1 .left) ∙ k .before .fails .ensures)
 
 pub past-spec : {M : Type 1} → statement M
-past-spec = tie.close (tie.spec fails-requires add-self sub-self returns returns-2)
+past-spec = tie.close (tie.spec (λ c κs. search needs) (λ c. search needs) (λ c. search needs) returns returns-2)

@@ -3,11 +3,8 @@ use borrow.Author.Needs.{needs}
 use Rattle.db_gains.proofs.factor.Factor.new.Statement.{statement}
 use Rattle.db_gains.proofs.factor.Factor.new.Tie as tie
 
-fade-requires : tie.Need-fade-requires
-fade-requires c κs = search needs
-
 returns : tie.Need-returns
 returns c = rw (c .fade .ensures .0)
 
 pub new-spec : {M : Type 1} → statement M
-new-spec = tie.close (tie.spec fade-requires returns)
+new-spec = tie.close (tie.spec (λ c κs. search needs) returns)

@@ -6,16 +6,10 @@ use Rattle.db_gains.specs.Factor.{factorOf}
 use Rattle.db_gains.proofs.factor.Factor.since.Statement.{statement}
 use Rattle.db_gains.proofs.factor.Factor.since.Tie as tie
 
-is-same-requires : tie.Need-is-same-requires
-is-same-requires c κs = search needs
-
 returns : tie.Need-returns
 returns c =
     let a = c .before .before .args in
     sym (ap (λ (b : Bool). cond b (a .self) (factorOf (a .lambda) (a .t) (a .last))) (sym (c .before .«is-same» .ensures) ∙ c .if1 .taken))
-
-new-requires : tie.Need-new-requires
-new-requires c κs = search needs
 
 returns-2 : tie.Need-returns-2
 returns-2 c =
@@ -24,4 +18,4 @@ returns-2 c =
     (sym (c .before .before .«is-same» .ensures) ∙ c .before .if1 .left))
 
 pub since-spec : {M : Type 1} → statement M
-since-spec = tie.close (tie.spec is-same-requires returns new-requires returns-2)
+since-spec = tie.close (tie.spec (λ c κs. search needs) returns (λ c κs. search needs) returns-2)

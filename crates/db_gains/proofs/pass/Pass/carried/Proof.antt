@@ -5,20 +5,11 @@ use borrow.Author.Needs.{needs}
 use Rattle.db_gains.proofs.pass.Pass.carried.Statement.{statement}
 use Rattle.db_gains.proofs.pass.Pass.carried.Tie as tie
 
-cut-requires : tie.Need-cut-requires
-cut-requires c κs = search needs
-
-add-at : tie.Need-add-at
-add-at c = search needs
-
 returns : tie.Need-returns
 returns c =
     let at-if1 = c .before .before .before in
     let at-cut = at-if1 .before .before in
     sym (rw (← at-cut .cut .ensures, lt-ltb _ _ (at-if1 .if1 .taken)))
-
-add-t13 : tie.Need-add-t13
-add-t13 c = search needs
 
 returns-2 : tie.Need-returns-2
 returns-2 c =
@@ -27,4 +18,4 @@ returns-2 c =
     sym (rw (← at-cut .cut .ensures, le-ltb _ _ (at-if1 .if1 .left)))
 
 pub carried-spec : {M : Type 1} → statement M
-carried-spec = tie.close (tie.spec cut-requires add-at returns add-t13 returns-2)
+carried-spec = tie.close (tie.spec (λ c κs. search needs) (λ c. search needs) returns (λ c. search needs) returns-2)

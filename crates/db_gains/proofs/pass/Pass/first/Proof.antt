@@ -3,19 +3,10 @@ use borrow.Author.Needs.{needs}
 use Rattle.db_gains.proofs.pass.Pass.first.Statement.{statement}
 use Rattle.db_gains.proofs.pass.Pass.first.Tie as tie
 
-first-requires : tie.Need-first-requires
-first-requires c κs = search needs
-
-cut-requires : tie.Need-cut-requires
-cut-requires c κs = search needs
-
-new-requires : tie.Need-new-requires
-new-requires c κs = search needs
-
 returns : tie.Need-returns
 returns c =
     let at-first = c .before .before .before in
     rw (at-first .first .ensures, c .before .cut .ensures, c .new .ensures)
 
 pub first-spec : {M : Type 1} → statement M
-first-spec = tie.close (tie.spec first-requires cut-requires new-requires returns)
+first-spec = tie.close (tie.spec (λ c κs. search needs) (λ c κs. search needs) (λ c κs. search needs) returns)

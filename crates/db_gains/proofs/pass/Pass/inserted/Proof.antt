@@ -6,12 +6,6 @@ use borrow.Author.Needs.{needs}
 use Rattle.db_gains.proofs.pass.Pass.inserted.Statement.{statement}
 use Rattle.db_gains.proofs.pass.Pass.inserted.Tie as tie
 
-fade-requires : tie.Need-fade-requires
-fade-requires c κs = search needs
-
-gained-requires : tie.Need-gained-requires
-gained-requires c κs = search needs
-
 returns : tie.Need-returns
 returns c =
     let at-gained = c .before .before in
@@ -27,4 +21,4 @@ returns-2 : tie.Need-returns-2
 returns-2 c = sym (rw (le-ltb _ _ (c .if1 .left)))
 
 pub inserted-spec : {M : Type 1} → statement M
-inserted-spec = tie.close (tie.spec fade-requires gained-requires returns returns-2)
+inserted-spec = tie.close (tie.spec (λ c κs. search needs) (λ c κs. search needs) returns returns-2)

@@ -3,11 +3,8 @@ use borrow.Author.Needs.{needs}
 use Rattle.db_gains.proofs.pass.Pass.next.Statement.{statement}
 use Rattle.db_gains.proofs.pass.Pass.next.Tie as tie
 
-next-requires : tie.Need-next-requires
-next-requires c κs = search needs
-
 returns : tie.Need-returns
 returns c = rw (c .before .before .next .ensures)
 
 pub next-spec : {M : Type 1} → statement M
-next-spec = tie.close (tie.spec next-requires returns)
+next-spec = tie.close (tie.spec (λ c κs. search needs) returns)

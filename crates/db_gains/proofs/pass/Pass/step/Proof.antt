@@ -5,12 +5,6 @@ use borrow.Author.Needs.{needs}
 use Rattle.db_gains.proofs.pass.Pass.step.Statement.{statement}
 use Rattle.db_gains.proofs.pass.Pass.step.Tie as tie
 
-turn-requires : tie.Need-turn-requires
-turn-requires c κs = search needs
-
-next-requires : tie.Need-next-requires
-next-requires c κs = search needs
-
 returns : tie.Need-returns
 returns c =
     let at-turn = c .before .before .before .before in
@@ -26,4 +20,4 @@ returns-2 c =
     stepped (a .lambda) (a .t) (a .self) (a .l) (a .ids) (a .k) (turn .result) _ _ (turn .ensures) (c .if1 .left) refl
 
 pub step-spec : {M : Type 1} → statement M
-step-spec = tie.close (tie.spec turn-requires next-requires returns returns-2)
+step-spec = tie.close (tie.spec (λ c κs. search needs) (λ c κs. search needs) returns returns-2)

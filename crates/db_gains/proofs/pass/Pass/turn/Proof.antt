@@ -6,19 +6,10 @@ use borrow.Author.Needs.{needs}
 use Rattle.db_gains.proofs.pass.Pass.turn.Statement.{statement}
 use Rattle.db_gains.proofs.pass.Pass.turn.Tie as tie
 
-carried-requires : tie.Need-carried-requires
-carried-requires c κs = search needs
-
 returns : tie.Need-returns
 returns c =
     let a = c .before .before .args in
     carried-turn (a .lambda) (a .t) (a .self) (a .l) (c .carried .result) (c .before .if1 .taken) (c .carried .ensures)
-
-is-before-requires : tie.Need-is-before-requires
-is-before-requires c κs = search needs
-
-add-walk : tie.Need-add-walk
-add-walk c = search needs
 
 returns-2 : tie.Need-returns-2
 returns-2 c =
@@ -29,15 +20,6 @@ returns-2 c =
     let a = at-if1 .before .args in
     passed-turn (a .lambda) (a .t) (a .self) (a .l) (at-if1 .if1 .left) (at-if2 .if2 .taken)
     (sym (at-is-before .«is-before» .ensures) ∙ at-if3 .if3 .taken)
-
-same-ends-requires : tie.Need-same-ends-requires
-same-ends-requires c κs = search needs
-
-since-requires : tie.Need-since-requires
-since-requires c κs = search needs
-
-gained-requires : tie.Need-gained-requires
-gained-requires c κs = search needs
 
 returns-3 : tie.Need-returns-3
 returns-3 c =
@@ -54,9 +36,6 @@ returns-3 c =
     (sym (at-is-before .«is-before» .ensures) ∙ at-if3 .if3 .left) (sym (at-same-ends .«same-ends» .ensures) ∙ at-if4 .if4 .taken)
     (at-since .since .ensures) (at-gained .gained .ensures)
 
-inserted-requires : tie.Need-inserted-requires
-inserted-requires c κs = search needs
-
 returns-4 : tie.Need-returns-4
 returns-4 c =
     let at-if1 = c .before .before .before .before .before .before in
@@ -68,5 +47,5 @@ returns-4 c =
 pub turn-spec : {M : Type 1} → statement M
 turn-spec =
     tie.close
-    (tie.spec carried-requires returns is-before-requires add-walk returns-2 same-ends-requires since-requires gained-requires returns-3
-    inserted-requires returns-4)
+    (tie.spec (λ c κs. search needs) returns (λ c κs. search needs) (λ c. search needs) returns-2 (λ c κs. search needs)
+    (λ c κs. search needs) (λ c κs. search needs) returns-3 (λ c κs. search needs) returns-4)

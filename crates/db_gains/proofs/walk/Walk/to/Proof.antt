@@ -10,36 +10,6 @@ use Rattle.db_gains.proofs.Walks.{walked}
 use Rattle.db_gains.proofs.walk.Walk.to.Statement.{statement}
 use Rattle.db_gains.proofs.walk.Walk.to.Tie as tie
 
-sub-cut : tie.Need-sub-cut
-sub-cut c = search needs
-
-cut-requires : tie.Need-cut-requires
-cut-requires c κs = search needs
-
-mul-a : tie.Need-mul-a
-mul-a c = search needs
-
-array-copy-out-a : tie.Need-array-copy-out-a
-array-copy-out-a c = search needs
-
-sub-cut-2 : tie.Need-sub-cut-2
-sub-cut-2 c = search needs
-
-cut-requires-2 : tie.Need-cut-requires-2
-cut-requires-2 c κs = search needs
-
-mul-b : tie.Need-mul-b
-mul-b c = search needs
-
-array-copy-out-b : tie.Need-array-copy-out-b
-array-copy-out-b c = search needs
-
-key-of-requires : tie.Need-key-of-requires
-key-of-requires c κs = search needs
-
-is-before-requires : tie.Need-is-before-requires
-is-before-requires c κs = search needs
-
 returns : tie.Need-returns
 returns c =
     let at-key-of = c .before .before .before in
@@ -67,5 +37,5 @@ returns-2 c =
 pub to-spec : {M : Type 1} → statement M
 to-spec =
     tie.close
-    (tie.spec sub-cut cut-requires mul-a array-copy-out-a sub-cut-2 cut-requires-2 mul-b array-copy-out-b key-of-requires is-before-requires returns
-    returns-2)
+    (tie.spec (λ c. search needs) (λ c κs. search needs) (λ c. search needs) (λ c. search needs) (λ c. search needs) (λ c κs. search needs)
+    (λ c. search needs) (λ c. search needs) (λ c κs. search needs) (λ c κs. search needs) returns returns-2)

@@ -7,15 +7,6 @@ use borrow.Author.Needs.{needs}
 use Rattle.dbstream.proofs.stream.DbStream.cleaned.Statement.{statement}
 use Rattle.dbstream.proofs.stream.DbStream.cleaned.Tie as tie
 
-retained-requires : tie.Need-retained-requires
-retained-requires c κs = search needs
-
-ids-of-requires : tie.Need-ids-of-requires
-ids-of-requires c κs = search needs
-
-retained-requires-2 : tie.Need-retained-requires-2
-retained-requires-2 c κs = search needs
-
 returns : tie.Need-returns
 returns c =
     let s = c .before .before .before .before .before .before .before .args .self in
@@ -26,4 +17,4 @@ returns c =
     (ap (λ (q : Micros). q .micros) (kept .ensures)) (ids .ensures) (ap (λ (q : Links). q .links) (bound .ensures))
 
 pub cleaned-spec : {M : Type 1} → statement M
-cleaned-spec = tie.close (tie.spec retained-requires ids-of-requires retained-requires-2 returns)
+cleaned-spec = tie.close (tie.spec (λ c κs. search needs) (λ c κs. search needs) (λ c κs. search needs) returns)

@@ -4,15 +4,6 @@ use borrow.Author.Needs.{needs}
 use Rattle.dbstream.proofs.stream.DbStream.cluster.Statement.{statement}
 use Rattle.dbstream.proofs.stream.DbStream.cluster.Tie as tie
 
-strong-ones-requires : tie.Need-strong-ones-requires
-strong-ones-requires c κs = search needs
-
-ids-of-requires : tie.Need-ids-of-requires
-ids-of-requires c κs = search needs
-
-labels-of-requires : tie.Need-labels-of-requires
-labels-of-requires c κs = search needs
-
 returns : tie.Need-returns
 returns c =
     let s = c .before .before .before .before .before .before .before .args .self in
@@ -23,4 +14,4 @@ returns c =
 pub cluster-spec : {M : Type 1} → statement M
 cluster-spec =
     tie.close
-    (tie.spec strong-ones-requires ids-of-requires labels-of-requires returns)
+    (tie.spec (λ c κs. search needs) (λ c κs. search needs) (λ c κs. search needs) returns)

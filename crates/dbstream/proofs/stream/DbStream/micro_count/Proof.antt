@@ -10,9 +10,6 @@ use borrow.Author.Needs.{needs}
 use Rattle.dbstream.proofs.stream.DbStream.micro_count.Statement.{statement}
 use Rattle.dbstream.proofs.stream.DbStream.micro_count.Tie as tie
 
-cut-requires : tie.Need-cut-requires
-cut-requires c κs = search needs
-
 returns : tie.Need-returns
 returns c =
     let s = c .before .args .self in
@@ -20,4 +17,4 @@ returns c =
     omega (arith, c .cut .ensures, map-length (cutTo (dimOf s)) (take (s .count) (s .micros)), length-take (s .count) (s .micros))
 
 pub micro-count-spec : {M : Type 1} → statement M
-micro-count-spec = tie.close (tie.spec cut-requires returns)
+micro-count-spec = tie.close (tie.spec (λ c κs. search needs) returns)

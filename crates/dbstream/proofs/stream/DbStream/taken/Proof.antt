@@ -48,12 +48,6 @@ returns c =
     let e = c .before in
     when-refused view (e .args .done) (ticked e) (e .args .t1) (not-true _ (c .if1 .taken))
 
-with-point-requires : tie.Need-with-point-requires Inv-loop μ-loop
-with-point-requires c κs = search needs
-
-first-requires : tie.Need-first-requires Inv-loop μ-loop
-first-requires c κs = search needs
-
 -- ---- the loop
 abbrev came : tie.At-loop Inv-loop μ-loop → tie.Start Inv-loop μ-loop
 came c = c .before .before .before .before .before .before .before .before .before
@@ -67,24 +61,6 @@ loop-holds c =
     let passing = starts (s .params .settings .lambda) (s .t) (f .ids) (f .count) (f .count) (s .links) (s .«link_count») (c .first .result)
     (ids-room e) (omega (arith, few)) (links-room e) (c .first .ensures) in
     (linked-first _, passing, links-room e)
-
-place-requires : tie.Need-place-requires Inv-loop μ-loop
-place-requires c κs = search needs
-
-mul-l : tie.Need-mul-l Inv-loop μ-loop
-mul-l c = search needs
-
-element-copy-out-l : tie.Need-element-copy-out-l Inv-loop μ-loop
-element-copy-out-l c = search needs
-
-step-requires : tie.Need-step-requires Inv-loop μ-loop
-step-requires c κs = search needs
-
-mul-new : tie.Need-mul-new Inv-loop μ-loop
-mul-new c = search needs
-
-element-set-from-new : tie.Need-element-set-from-new Inv-loop μ-loop
-element-set-from-new c = search needs
 
 -- a step keeps what holds
 abbrev turn : tie.After-step Inv-loop μ-loop → tie.At-loop Inv-loop μ-loop
@@ -116,9 +92,6 @@ loop-again c =
       length-set (k .self .links) _ _ ∙ k .inv .2,
     )
 
-tick-requires : tie.Need-tick-requires Inv-loop μ-loop
-tick-requires c κs = search needs
-
 -- the loop leaves document 01's stream before its tick
 returns-2 : tie.Need-returns-2 Inv-loop μ-loop
 returns-2 c =
@@ -138,20 +111,5 @@ returns-2 c =
 pub taken-spec : {M : Type 1} → statement M
 taken-spec =
     tie.close
-    (tie.spec
-    Inv-loop
-    μ-loop
-    returns
-    with-point-requires
-    first-requires
-    loop-holds
-    place-requires
-    mul-l
-    element-copy-out-l
-    step-requires
-    mul-new
-    element-set-from-new
-    loop-less
-    loop-again
-    tick-requires
-    returns-2)
+    (tie.spec Inv-loop μ-loop returns (λ c κs. search needs) (λ c κs. search needs) loop-holds (λ c κs. search needs) (λ c. search needs)
+    (λ c. search needs) (λ c κs. search needs) (λ c. search needs) (λ c. search needs) loop-less loop-again (λ c κs. search needs) returns-2)

@@ -11,15 +11,6 @@ use Rattle.dbstream.proofs.Inserts.{Met, few, inserted}
 use Rattle.dbstream.proofs.stream.DbStream.try_insert.Statement.{statement}
 use Rattle.dbstream.proofs.stream.DbStream.try_insert.Tie as tie
 
-cut-requires : tie.Need-cut-requires
-cut-requires c κs = search needs
-
-padded-requires : tie.Need-padded-requires
-padded-requires c κs = search needs
-
-scan-for-requires : tie.Need-scan-for-requires
-scan-for-requires c κs = search needs
-
 -- the call; and what is known once the micro-clusters are scanned
 abbrev came : tie.After-scan-for → tie.Start
 came c = c .before .before .before .before .before
@@ -40,15 +31,6 @@ met c =
       scanned = c .scan-for .ensures;
     }
 
-has-place-requires : tie.Need-has-place-requires
-has-place-requires c κs = search needs
-
-insertion-asked-requires : tie.Need-insertion-asked-requires
-insertion-asked-requires c κs = search needs
-
-is-done-requires : tie.Need-is-done-requires
-is-done-requires c κs = search needs
-
 taken-requires : tie.Need-taken-requires
 taken-requires c κs = few (met (c .before .before .before))
 
@@ -65,12 +47,5 @@ returns c =
 pub try-insert-spec : {M : Type 1} → statement M
 try-insert-spec =
     tie.close
-    (tie.spec
-    cut-requires
-    padded-requires
-    scan-for-requires
-    has-place-requires
-    insertion-asked-requires
-    is-done-requires
-    taken-requires
-    returns)
+    (tie.spec (λ c κs. search needs) (λ c κs. search needs) (λ c κs. search needs) (λ c κs. search needs) (λ c κs. search needs)
+    (λ c κs. search needs) taken-requires returns)

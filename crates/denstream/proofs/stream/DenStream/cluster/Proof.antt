@@ -4,12 +4,6 @@ use Rattle.denstream.proofs.Labels.{clustered}
 use Rattle.denstream.proofs.stream.DenStream.cluster.Statement.{statement}
 use Rattle.denstream.proofs.stream.DenStream.cluster.Tie as tie
 
-potential-held-requires : tie.Need-potential-held-requires
-potential-held-requires c κs = search needs
-
-group-labels-requires : tie.Need-group-labels-requires
-group-labels-requires c κs = search needs
-
 returns : tie.Need-returns
 returns c =
     let s = c .before .before .before .before .args .self in
@@ -17,4 +11,4 @@ returns c =
     clustered s (n .result) (n .ensures) (c .group-labels .result) (c .group-labels .ensures)
 
 pub cluster-spec : {M : Type 1} → statement M
-cluster-spec = tie.close (tie.spec potential-held-requires group-labels-requires returns)
+cluster-spec = tie.close (tie.spec (λ c κs. search needs) (λ c κs. search needs) returns)

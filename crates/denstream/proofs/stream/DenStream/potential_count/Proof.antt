@@ -10,9 +10,6 @@ use Rattle.denstream.specs.View.{dimOf}
 use Rattle.denstream.proofs.stream.DenStream.potential_count.Statement.{statement}
 use Rattle.denstream.proofs.stream.DenStream.potential_count.Tie as tie
 
-potential-held-requires : tie.Need-potential-held-requires
-potential-held-requires c κs = search needs
-
 returns : tie.Need-returns
 returns c =
     let s = c .before .args .self in
@@ -20,4 +17,4 @@ returns c =
     c .potential-held .ensures ∙ sym (held-length (dimOf s) (potentialHeld (s .«potential_count»)) (s .potential) (omega (arith, room)))
 
 pub potential-count-spec : {M : Type 1} → statement M
-potential-count-spec = tie.close (tie.spec potential-held-requires returns)
+potential-count-spec = tie.close (tie.spec (λ c κs. search needs) returns)

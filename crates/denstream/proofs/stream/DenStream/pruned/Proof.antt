@@ -9,18 +9,6 @@ use Rattle.denstream.specs.View.{view, dimOf}
 use Rattle.denstream.proofs.stream.DenStream.pruned.Statement.{statement}
 use Rattle.denstream.proofs.stream.DenStream.pruned.Tie as tie
 
-potential-held-requires : tie.Need-potential-held-requires
-potential-held-requires c κs = search needs
-
-outliers-held-requires : tie.Need-outliers-held-requires
-outliers-held-requires c κs = search needs
-
-pruned-requires : tie.Need-pruned-requires
-pruned-requires c κs = search needs
-
-pruned-requires-2 : tie.Need-pruned-requires-2
-pruned-requires-2 c κs = search needs
-
 returns : tie.Need-returns
 returns c =
     let e = c .before .before .before .before .before .before .before .before .before in
@@ -39,9 +27,4 @@ returns c =
 pub pruned-spec : {M : Type 1} → statement M
 pruned-spec =
     tie.close
-    (tie.spec
-    potential-held-requires
-    outliers-held-requires
-    pruned-requires
-    pruned-requires-2
-    returns)
+    (tie.spec (λ c κs. search needs) (λ c κs. search needs) (λ c κs. search needs) (λ c κs. search needs) returns)

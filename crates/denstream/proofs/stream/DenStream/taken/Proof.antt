@@ -29,12 +29,6 @@ returns c =
     let e = c .before in
     when-refused view (e .args .done) (ticked e) (e .args .t1) (not-true _ (c .if1 .taken))
 
-potential-held-requires : tie.Need-potential-held-requires
-potential-held-requires c κs = search needs
-
-outliers-held-requires : tie.Need-outliers-held-requires
-outliers-held-requires c κs = search needs
-
 abbrev came : tie.After-outliers-held → tie.Start
 came c = c .before .before .before
 
@@ -65,20 +59,11 @@ newborn-place :
     k .before .potential-held .result + k .outliers-held .result < microsMost
 newborn-place c = newborn-low (counted (c .before .before .before)) (c .enum-told4 .given .1)
 
-enum-told : tie.Need-enum-told
-enum-told c = search needs
-
 mul-m : tie.Need-mul-m
 mul-m c = omega (arith, potential-place c)
 
 element-set-from-m : tie.Need-element-set-from-m
 element-set-from-m c = omega (arith, potential-place c)
-
-enum-told-2 : tie.Need-enum-told-2
-enum-told-2 c = search needs
-
-without-requires : tie.Need-without-requires
-without-requires c κs = search needs
 
 mul-m-2 : tie.Need-mul-m-2
 mul-m-2 c = omega (arith, promotion-place (c .before .before .before))
@@ -89,17 +74,11 @@ element-set-from-m-2 c = omega (arith, promotion-place (c .before .before .befor
 add-self : tie.Need-add-self
 add-self c = omega (arith, promotion-place (c .before .before .before))
 
-enum-told-3 : tie.Need-enum-told-3
-enum-told-3 c = search needs
-
 mul-m-3 : tie.Need-mul-m-3
 mul-m-3 c = omega (arith, outlier-place c)
 
 element-set-from-m-3 : tie.Need-element-set-from-m-3
 element-set-from-m-3 c = omega (arith, outlier-place c)
-
-enum-told-4 : tie.Need-enum-told-4
-enum-told-4 c = search needs
 
 mul-m-4 : tie.Need-mul-m-4
 mul-m-4 c = omega (arith, newborn-place c)
@@ -109,9 +88,6 @@ element-set-from-m-4 c = omega (arith, newborn-place c)
 
 add-self-2 : tie.Need-add-self-2
 add-self-2 c = omega (arith, newborn-place c)
-
-enum-told-5 : tie.Need-enum-told-5
-enum-told-5 c = search needs
 
 -- no point is taken that has no place
 returns-2 : tie.Need-returns-2
@@ -133,9 +109,6 @@ pooled c =
     (λ w. ap (λ (v : DenStream). view (cleared v)) (w .2) ∙ to-newborn k (w .1 .given .1))))
     (c .match .came)
 
-tick-requires : tie.Need-tick-requires
-tick-requires c κs = search needs
-
 returns-3 : tie.Need-returns-3
 returns-3 c =
     let k = c .before .before .before in
@@ -147,26 +120,6 @@ returns-3 c =
 pub taken-spec : {M : Type 1} → statement M
 taken-spec =
     tie.close
-    (tie.spec
-    returns
-    potential-held-requires
-    outliers-held-requires
-    enum-told
-    mul-m
-    element-set-from-m
-    enum-told-2
-    without-requires
-    mul-m-2
-    element-set-from-m-2
-    add-self
-    enum-told-3
-    mul-m-3
-    element-set-from-m-3
-    enum-told-4
-    mul-m-4
-    element-set-from-m-4
-    add-self-2
-    enum-told-5
-    returns-2
-    tick-requires
-    returns-3)
+    (tie.spec returns (λ c κs. search needs) (λ c κs. search needs) (λ c. search needs) mul-m element-set-from-m (λ c. search needs)
+    (λ c κs. search needs) mul-m-2 element-set-from-m-2 add-self (λ c. search needs) mul-m-3 element-set-from-m-3 (λ c. search needs)
+    mul-m-4 element-set-from-m-4 add-self-2 (λ c. search needs) returns-2 (λ c κs. search needs) returns-3)

@@ -10,21 +10,12 @@ use Rattle.denstream.specs.View.{view}
 use Rattle.denstream.proofs.stream.DenStream.tick.Statement.{statement}
 use Rattle.denstream.proofs.stream.DenStream.tick.Tie as tie
 
-at-requires : tie.Need-at-requires
-at-requires c κs = search needs
-
-tick-requires : tie.Need-tick-requires
-tick-requires c κs = search needs
-
 -- what the clock tells
 told :
     (c : tie.After-tick) →
     let a = c .before .before .before .args in
     tickTold (c .tick .result) ≡ tickedOf (record { t = a .self .t; period = a .self .params .tp; drift = a .self .drift }) (a .near)
 told c = c .tick .ensures ∙ ap (λ (q : Clock). tickedOf q (c .before .before .before .args .near)) (c .before .at .ensures)
-
-pruned-requires : tie.Need-pruned-requires
-pruned-requires c κs = search needs
 
 returns : tie.Need-returns
 returns c =
@@ -41,4 +32,4 @@ returns-2 c =
     ticked denstream (view (a .self)) (a .near) (tickTold (k .tick .result)) (told k) false _ still refl
 
 pub tick-spec : {M : Type 1} → statement M
-tick-spec = tie.close (tie.spec at-requires tick-requires pruned-requires returns returns-2)
+tick-spec = tie.close (tie.spec (λ c κs. search needs) (λ c κs. search needs) (λ c κs. search needs) returns returns-2)

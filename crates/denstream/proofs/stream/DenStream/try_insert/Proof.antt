@@ -11,15 +11,6 @@ use Rattle.denstream.proofs.Inserts.{Met, placing, room, inserted}
 use Rattle.denstream.proofs.stream.DenStream.try_insert.Statement.{statement}
 use Rattle.denstream.proofs.stream.DenStream.try_insert.Tie as tie
 
-cut-requires : tie.Need-cut-requires
-cut-requires c κs = search needs
-
-padded-requires : tie.Need-padded-requires
-padded-requires c κs = search needs
-
-place-requires : tie.Need-place-requires
-place-requires c κs = search needs
-
 -- the call; and what is known once the point is placed
 abbrev came : tie.After-place → tie.Start
 came c = c .before .before .before .before .before .before .before
@@ -38,15 +29,6 @@ met c =
       point = λ ex. point-is (e .args .x .now) (p .result) (dimOf (e .args .self)) (ex ∙ d .ensures) (omega arith) (p .ensures);
       placement = c .place .ensures;
     }
-
-takes-requires : tie.Need-takes-requires
-takes-requires c κs = search needs
-
-insertion-asked-requires : tie.Need-insertion-asked-requires
-insertion-asked-requires c κs = search needs
-
-is-done-requires : tie.Need-is-done-requires
-is-done-requires c κs = search needs
 
 taken-requires : tie.Need-taken-requires
 taken-requires c κs =
@@ -68,12 +50,5 @@ returns c =
 pub try-insert-spec : {M : Type 1} → statement M
 try-insert-spec =
     tie.close
-    (tie.spec
-    cut-requires
-    padded-requires
-    place-requires
-    takes-requires
-    insertion-asked-requires
-    is-done-requires
-    taken-requires
-    returns)
+    (tie.spec (λ c κs. search needs) (λ c κs. search needs) (λ c κs. search needs) (λ c κs. search needs) (λ c κs. search needs)
+    (λ c κs. search needs) taken-requires returns)

@@ -23,9 +23,6 @@ Inv-loop dim self₀ x k grown factor c n₀ i₀ self n i =
 abbrev μ-loop : tie.MeasureT-loop
 μ-loop dim self₀ x k grown factor c n₀ i₀ self n i = k - i
 
-cut-requires : tie.Need-cut-requires Inv-loop μ-loop
-cut-requires c κs = search needs
-
 loop-holds : tie.Need-loop-holds Inv-loop μ-loop
 loop-holds c =
     let a = c .before .args in
@@ -38,30 +35,6 @@ loop-holds c =
       ap (moved _ (a .t1 .mean)) e,
       ap (λ (l : List Float). sqDist l (a .t1 .mean)) e,
     )
-
-mul-m : tie.Need-mul-m Inv-loop μ-loop
-mul-m c = search needs
-
-element-copy-out-m : tie.Need-element-copy-out-m Inv-loop μ-loop
-element-copy-out-m c = search needs
-
-mul-d : tie.Need-mul-d Inv-loop μ-loop
-mul-d c = search needs
-
-array-read-d : tie.Need-array-read-d Inv-loop μ-loop
-array-read-d c = search needs
-
-mul-self : tie.Need-mul-self Inv-loop μ-loop
-mul-self c = search needs
-
-element-write-self : tie.Need-element-write-self Inv-loop μ-loop
-element-write-self c = search needs
-
-add-i : tie.Need-add-i Inv-loop μ-loop
-add-i c = search needs
-
-loop-less : tie.Need-loop-less Inv-loop μ-loop
-loop-less c = search needs
 
 loop-again : tie.Need-loop-again Inv-loop μ-loop
 loop-again c =
@@ -96,5 +69,5 @@ returns c =
 pub push-spec : {M : Type 1} → statement M
 push-spec =
     tie.close
-    (tie.spec Inv-loop μ-loop cut-requires loop-holds mul-m element-copy-out-m mul-d array-read-d mul-self element-write-self add-i loop-less
-    loop-again returns)
+    (tie.spec Inv-loop μ-loop (λ c κs. search needs) loop-holds (λ c. search needs) (λ c. search needs) (λ c. search needs)
+    (λ c. search needs) (λ c. search needs) (λ c. search needs) (λ c. search needs) (λ c. search needs) loop-again returns)

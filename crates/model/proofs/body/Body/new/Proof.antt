@@ -3,11 +3,8 @@ use borrow.Author.Needs.{needs}
 use Rattle.model.proofs.body.Body.new.Statement.{statement}
 use Rattle.model.proofs.body.Body.new.Tie as tie
 
-new-requires : tie.Need-new-requires
-new-requires c κs = search needs
-
 returns : tie.Need-returns
 returns c = rw (c .new .ensures)
 
 pub new-spec : {M : Type 1} → statement M
-new-spec = tie.close (tie.spec new-requires returns)
+new-spec = tie.close (tie.spec (λ c κs. search needs) returns)
