@@ -1,67 +1,88 @@
 // The lines of the answers that both streams give.
+use crate::output::Line;
+use crate::output::double;
 use crate::output::end;
+use crate::output::label;
+use crate::output::number;
 use crate::output::put;
-use crate::output::put_double;
-use crate::output::put_label;
-use crate::output::put_number;
 use crate::output::say;
+use crate::output::start;
+use crate::rows::labels;
+use drift::DriftReport;
+use drift::LastAlarm;
 use model::Connectivity;
 use model::Insertion;
+use model::MICROS;
 use model::Opening;
 use model::Prediction;
+use model::ReadOut;
 
-fn say_refused(line: &mut [u8], number: u64) {
-    let head = put(line, 0, b"refused");
-    let at = put_number(line, head, number);
-    end(line, at);
+fn say_refused(code: u64) {
+    end(number(start(b"refused"), code));
 }
 
-pub fn say_opening(line: &mut [u8], answer: Opening) {
+// Whether the stream is open; the answer is printed.
+pub fn opens(answer: Opening) -> bool {
     if answer.is_open() {
-        say(line, b"ok");
-    } else {
-        say_refused(line, answer.number());
+        say(b"ok");
+        return true;
     }
+    say_refused(answer.number());
+    false
 }
 
-fn say_shape(line: &mut [u8], expected: usize, got: usize) {
-    let head = put(line, 0, b"refused 7");
-    let e = put_number(line, head, expected as u64);
-    let g = put_number(line, e, got as u64);
-    end(line, g);
+fn say_shape(expected: usize, got: usize) {
+    let line = number(start(b"refused 7"), expected as u64);
+    end(number(line, got as u64));
 }
 
-pub fn say_insertion(line: &mut [u8], answer: Insertion) {
+pub fn say_insertion(answer: Insertion) {
     match answer {
-        Insertion::Done => say(line, b"ok"),
-        Insertion::Shape { expected, got } => say_shape(line, expected, got),
-        Insertion::ClockAtLimit => say_refused(line, 8),
-        Insertion::NoPlace => say_refused(line, 9),
+        Insertion::Done => say(b"ok"),
+        Insertion::Shape { expected, got } => say_shape(expected, got),
+        Insertion::ClockAtLimit => say_refused(8),
+        Insertion::NoPlace => say_refused(9),
     }
 }
 
-fn say_label(line: &mut [u8], label: i64) {
-    let head = put(line, 0, b"label");
-    let at = put_label(line, head, label);
-    end(line, at);
+pub fn say_labels(answer: ReadOut, read: [i64; MICROS], count: usize) {
+    let ReadOut::Written = answer else {
+        say_refused(10);
+        return;
+    };
+    end(labels(start(b"labels"), read, count));
 }
 
-pub fn say_prediction(line: &mut [u8], answer: Prediction) {
+pub fn say_prediction(answer: Prediction) {
     match answer {
-        Prediction::Label(label) => say_label(line, label),
-        Prediction::Shape { expected, got } => say_shape(line, expected, got),
+        Prediction::Label(l) => end(label(start(b"label"), l)),
+        Prediction::Shape { expected, got } => say_shape(expected, got),
     }
 }
 
-fn say_density(line: &mut [u8], density: f64) {
-    let head = put(line, 0, b"connectivity");
-    let at = put_double(line, head, density);
-    end(line, at);
-}
-
-pub fn say_connectivity(line: &mut [u8], answer: Connectivity) {
+pub fn say_connectivity(answer: Connectivity) {
     match answer {
-        Connectivity::Density(density) => say_density(line, density),
-        Connectivity::NotLive => say(line, b"refused 12"),
+        Connectivity::Density(density) => end(double(start(b"connectivity"), density)),
+        Connectivity::NotLive => say_refused(12),
     }
+}
+
+// The tick of the last alarm by its bits, or a dash.
+fn last_tick(line: Line, last: LastAlarm) -> Line {
+    let LastAlarm::At(t) = last else {
+        return put(line, b" -");
+    };
+    double(line, t)
+}
+
+pub fn say_drift(d: DriftReport) {
+    let last = d.last_alarm;
+    let alarms = number(start(b"drift"), d.alarms);
+    let mean = double(last_tick(alarms, last), d.distance);
+    end(number(mean, d.window as u64));
+}
+
+pub fn say_counts(dim: usize, micros: usize, families: usize) {
+    let line = number(start(b"counts"), dim as u64);
+    end(number(number(line, micros as u64), families as u64));
 }

@@ -1,218 +1,178 @@
 // The operations on a DBSTREAM.
-use crate::answers::say_connectivity;
-use crate::answers::say_insertion;
-use crate::answers::say_opening;
-use crate::answers::say_prediction;
-use crate::figures::CENTRES;
-use crate::figures::put_feature;
-use crate::figures::put_labels;
-use crate::figures::put_monitor;
-use crate::figures::say_counts;
-use crate::figures::say_drift;
-use crate::figures::say_statistics;
-use crate::input::OPERANDS;
+use crate::answers;
+use crate::figures::end_with;
+use crate::figures::feature;
 use crate::input::Record;
-use crate::input::doubles;
-use crate::output::ROOM;
-use crate::output::end;
-use crate::output::put;
-use crate::output::put_double;
-use crate::output::put_number;
-use crate::output::put_whole;
+use crate::lent::label_places;
+use crate::lent::places;
+use crate::output::Line;
+use crate::output::double;
+use crate::output::number;
 use crate::output::say;
+use crate::output::start;
+use crate::output::whole;
+use crate::rows;
+use crate::statistics::CENTRES;
+use crate::statistics::say_statistics;
 use dbstream::DbStream;
-use dbstream::Opened;
 use model::DbMicro;
 use model::DbSettings;
 use model::LINKS;
 use model::Link;
 use model::MICROS;
 use model::MicroId;
-use model::ReadOut;
 
-fn insert(line: &mut [u8], s: DbStream, x: &[f64]) -> DbStream {
-    let r = s.try_insert(x);
-    let next = r.stream;
-    let answer = r.answer;
-    say_insertion(line, answer);
-    next
+fn settings(r: Record) -> DbSettings {
+    let words = r.words;
+    let xs = r.doubles;
+    DbSettings {
+        dim: words[0] as usize,
+        r: xs[1],
+        lambda: xs[2],
+        alpha: xs[3],
+        min_weight: xs[4],
+    }
+}
+
+// Whether these operands open a stream; the answer is printed.
+pub fn opens(r: Record) -> bool {
+    let opened = DbStream::new(settings(r));
+    let answer = opened.answer;
+    answers::opens(answer)
+}
+
+// The stream of these operands; one of zeros if they are refused.
+pub fn opened(r: Record) -> DbStream {
+    let opened = DbStream::new(settings(r));
+    opened.stream
+}
+
+fn insert(s: DbStream, r: Record) -> DbStream {
+    let xs = r.doubles;
+    let n = places(r.count, &xs);
+    let inserted = s.try_insert(&xs[..n]);
+    let answer = inserted.answer;
+    answers::say_insertion(answer);
+    inserted.stream
+}
+
+fn predict(s: DbStream, r: Record) {
+    let xs = r.doubles;
+    let n = places(r.count, &xs);
+    answers::say_prediction(db_readout::try_predict(s, &xs[..n]));
 }
 
 // The labels, into a slice of that length.
-fn labels(line: &mut [u8], s: DbStream, capacity: usize) {
-    let count = s.label_count;
+fn labels(s: DbStream, capacity: usize) {
     let mut out = [0i64; MICROS];
-    let n = lists::cut(capacity, MICROS);
+    let n = label_places(capacity, &out);
     let answer = db_readout::labels(s, &mut out[..n]);
-    let ReadOut::Written = answer else {
-        say(line, b"refused 10");
-        return;
-    };
-    let head = put(line, 0, b"labels");
-    let at = put_labels(line, head, out, count);
-    end(line, at);
-}
-
-fn predict(line: &mut [u8], s: DbStream, x: &[f64]) {
-    let answer = db_readout::try_predict(s, x);
-    say_prediction(line, answer);
+    answers::say_labels(answer, out, s.label_count);
 }
 
 // Centres, weights and radii, into slices of these lengths.
-fn statistics(line: &mut [u8], s: DbStream, c: usize, w: usize, r: usize) {
+fn statistics(s: DbStream, c: usize, w: usize, r: usize) {
     let mut centres = [0.0; CENTRES];
     let mut weights = [0.0; MICROS];
     let mut radii = [0.0; MICROS];
-    let cs = lists::cut(c, CENTRES);
-    let ws = lists::cut(w, MICROS);
-    let rs = lists::cut(r, MICROS);
-    let n = s.micro_count();
-    let dim = s.dim();
+    let cs = places(c, &centres);
+    let ws = places(w, &weights);
+    let rs = places(r, &radii);
     let answer = db_readout::micro_stats(
         s,
         &mut centres[..cs],
         &mut weights[..ws],
         &mut radii[..rs],
     );
-    let ReadOut::Written = answer else {
-        say(line, b"refused 10");
-        return;
-    };
-    say_statistics(line, n, dim, centres, weights, radii);
+    say_statistics(answer, s.micro_count(), s.dim(), centres, weights, radii);
 }
 
-fn connectivity(line: &mut [u8], s: DbStream, a: u64, b: u64) {
-    let answer = db_readout::connectivity(s, MicroId(a), MicroId(b));
-    say_connectivity(line, answer);
+fn counts(s: DbStream) {
+    answers::say_counts(s.dim(), s.micro_count(), db_readout::n_clusters(s));
 }
 
-fn drift(line: &mut [u8], s: DbStream) {
-    let report = s.drift();
-    say_drift(line, report);
-}
-
-fn counts(line: &mut [u8], s: DbStream) {
-    say_counts(line, s.dim(), s.micro_count(), db_readout::n_clusters(s));
-}
-
-fn put_micro(line: &mut [u8], from: usize, m: DbMicro, dim: usize) -> usize {
+fn micro(line: Line, m: DbMicro, dim: usize) -> Line {
     let id = m.id;
-    let cf = m.body.cf;
-    let i = put_number(line, from, id.0);
-    let at = put_whole(line, i, m.body.last);
-    put_feature(line, at, cf, dim)
+    let cf = m.cf;
+    feature(whole(number(line, id.0), m.last), cf, dim)
 }
 
-fn put_micros(
-    line: &mut [u8],
-    from: usize,
-    micros: [DbMicro; MICROS],
-    n: usize,
-    dim: usize,
-) -> usize {
-    let k = lists::cut(n, MICROS);
-    let mut at = put_number(line, from, k as u64);
+// How many micro-clusters, then each.
+fn micros(line: Line, held: [DbMicro; MICROS], count: usize, dim: usize) -> Line {
+    let n = lists::cut(count, MICROS);
+    let mut out = number(line, n as u64);
     let mut i: usize = 0;
-    while i < k {
-        let m = micros[i];
-        at = put_micro(line, at, m, dim);
+    while i < n {
+        let m = held[i];
+        out = micro(out, m, dim);
         i += 1;
     }
-    at
+    out
 }
 
-fn put_link(line: &mut [u8], from: usize, l: Link) -> usize {
+fn link(line: Line, l: Link) -> Line {
     let lo = l.lo;
     let hi = l.hi;
-    let a = put_number(line, from, lo.0);
-    let b = put_number(line, a, hi.0);
-    let v = put_double(line, b, l.value);
-    put_whole(line, v, l.last)
+    let ends = number(number(line, lo.0), hi.0);
+    whole(double(ends, l.value), l.last)
 }
 
-fn put_links(line: &mut [u8], from: usize, links: [Link; LINKS], n: usize) -> usize {
-    let k = lists::cut(n, LINKS);
-    let mut at = put_number(line, from, k as u64);
+// How many links, then each.
+fn links(line: Line, held: [Link; LINKS], count: usize) -> Line {
+    let n = lists::cut(count, LINKS);
+    let mut out = number(line, n as u64);
     let mut i: usize = 0;
-    while i < k {
-        let l = links[i];
-        at = put_link(line, at, l);
+    while i < n {
+        let l = held[i];
+        out = link(out, l);
         i += 1;
     }
-    at
+    out
+}
+
+// Clock, next creation number and micro-clusters.
+fn with_micros(s: DbStream) -> Line {
+    let next = s.next_id;
+    let held = s.micros;
+    let line = number(whole(start(b"db"), s.t), next.0);
+    micros(line, held, s.count, s.params.settings.dim)
 }
 
 // Every kept figure.
-fn figures(line: &mut [u8], s: DbStream) {
-    let micros = s.micros;
-    let links = s.links;
+fn figures(s: DbStream) {
+    let joins = s.links;
     let kept = s.labels;
     let monitor = s.drift;
-    let head = put(line, 0, b"db");
-    let t = put_whole(line, head, s.t);
-    let next = s.next_id;
-    let i = put_number(line, t, next.0);
-    let m = put_micros(line, i, micros, s.count, s.params.settings.dim);
-    let l = put_links(line, m, links, s.link_count);
-    let k = put_labels(line, l, kept, s.label_count);
-    let d = put_monitor(line, k, monitor);
-    end(line, d);
+    let line = links(with_micros(s), joins, s.link_count);
+    end_with(rows::labels(line, kept, s.label_count), monitor);
 }
 
-// A stream of zeros, until one is opened.
-pub fn unopened() -> DbStream {
-    let refused = DbStream::new(DbSettings {
-        dim: 0,
-        r: 0.0,
-        lambda: 0.0,
-        alpha: 0.0,
-        min_weight: 0.0,
-    });
-    refused.stream
-}
-
-pub fn open(r: Record) -> Opened {
-    let mut line = [0u8; ROOM];
-    let words = r.words;
-    let xs = doubles(words);
-    let opened = DbStream::new(DbSettings {
-        dim: words[0] as usize,
-        r: xs[1],
-        lambda: xs[2],
-        alpha: xs[3],
-        min_weight: xs[4],
-    });
-    let answer = opened.answer;
-    say_opening(&mut line, answer);
-    opened
-}
-
-// An operation on the current stream.
-pub fn act(s: DbStream, r: Record) -> DbStream {
-    let mut line = [0u8; ROOM];
-    let words = r.words;
-    let xs = doubles(words);
-    let n = lists::cut(r.count, OPERANDS);
+// An operation that changes nothing.
+fn read(s: DbStream, r: Record) {
+    let w = r.words;
     let op = r.op;
     match op {
-        3 => return insert(&mut line, s, &xs[..n]),
+        5 => labels(s, w[0] as usize),
+        6 => predict(s, r),
+        7 => statistics(s, w[0] as usize, w[1] as usize, w[2] as usize),
+        8 => answers::say_connectivity(db_readout::connectivity(s, MicroId(w[0]), MicroId(w[1]))),
+        9 => answers::say_drift(s.drift()),
+        13 => figures(s),
+        _ => counts(s),
+    }
+}
+
+// An operation on the current stream; an opening makes it anew.
+pub fn act(s: DbStream, r: Record) -> DbStream {
+    let op = r.op;
+    match op {
+        1 => return opened(r),
+        3 => return insert(s, r),
         4 => {
-            say(&mut line, b"ok");
+            say(b"ok");
             return s.cluster();
         }
-        5 => labels(&mut line, s, words[0] as usize),
-        6 => predict(&mut line, s, &xs[..n]),
-        7 => statistics(
-            &mut line,
-            s,
-            words[0] as usize,
-            words[1] as usize,
-            words[2] as usize,
-        ),
-        8 => connectivity(&mut line, s, words[0], words[1]),
-        9 => drift(&mut line, s),
-        13 => figures(&mut line, s),
-        _ => counts(&mut line, s),
+        _ => read(s, r),
     }
     s
 }

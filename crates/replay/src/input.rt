@@ -1,5 +1,4 @@
 // Records of standard input: an operation's number, a count of at most 64, and that many operand words.
-use crate::output::ROOM;
 use crate::output::say;
 use words::double_of;
 use words::word_at;
@@ -7,31 +6,29 @@ use words::word_at;
 const STDIN: i32 = 0;
 
 // The most operands of a record.
-pub const OPERANDS: usize = 64;
+const OPERANDS: usize = 64;
 
 // The operation of no record: the program ends.
 pub const STOP: u64 = 0;
 
-// How a record came.
-enum Status {
-    Whole,
-    Ended,
-    Bad,
-}
+// The operation of a record that is not well formed.
+const BAD: u64 = 15;
 
+// The operands as words and as doubles.
 pub struct Record {
-    status: Status,
     pub op: u64,
     pub count: usize,
     pub words: [u64; OPERANDS],
+    pub doubles: [f64; OPERANDS],
 }
 
-fn nothing(status: Status) -> Record {
+// A record of no operands.
+pub fn bare(op: u64) -> Record {
     Record {
-        status,
-        op: STOP,
+        op,
         count: 0,
         words: [0; OPERANDS],
+        doubles: [0.0; OPERANDS],
     }
 }
 
@@ -46,38 +43,28 @@ fn operand(bytes: &[u8; 512], i: usize) -> u64 {
 // The operands of a record whose head was read.
 fn operands(op: u64, count: usize) -> Record {
     if count > OPERANDS {
-        return nothing(Status::Bad);
+        return bare(BAD);
     }
     let mut bytes = [0u8; 512];
     let due = count * 8;
     if io::read_full(STDIN, &mut bytes[..due]) < due {
-        return nothing(Status::Bad);
+        return bare(BAD);
     }
     let mut words = [0u64; OPERANDS];
+    let mut doubles = [0.0; OPERANDS];
     let mut i: usize = 0;
     while i < count {
-        words[i] = operand(&bytes, i);
+        let word = operand(&bytes, i);
+        words[i] = word;
+        doubles[i] = double_of(word);
         i += 1;
     }
     Record {
-        status: Status::Whole,
         op,
         count,
         words,
+        doubles,
     }
-}
-
-// The next bytes as a record.
-fn read_record() -> Record {
-    let mut head = [0u8; 16];
-    let got = io::read_full(STDIN, &mut head);
-    if got == 0 {
-        return nothing(Status::Ended);
-    }
-    if got < 16 {
-        return nothing(Status::Bad);
-    }
-    operands(word_at(&head, 0), word_at(&head, 8) as usize)
 }
 
 // Whether the operation is known and has its number of operands.
@@ -93,33 +80,25 @@ fn is_known(op: u64, count: usize) -> bool {
     }
 }
 
-// The next record; STOP at the end of the input and, with the line `bad`, at a record that is not well formed.
-pub fn next_record() -> Record {
-    let mut line = [0u8; ROOM];
-    let r = read_record();
-    let status = r.status;
-    match status {
-        Status::Whole => {}
-        Status::Ended => return nothing(Status::Ended),
-        Status::Bad => {
-            say(&mut line, b"bad");
-            return nothing(Status::Bad);
-        }
-    }
+// The record of these 16 bytes and of the operands behind them.
+fn record_of(op: u64, count: usize) -> Record {
+    let r = operands(op, count);
     if is_known(r.op, r.count) {
         return r;
     }
-    say(&mut line, b"bad");
-    nothing(Status::Bad)
+    say(b"bad");
+    bare(STOP)
 }
 
-// The operands as doubles.
-pub fn doubles(words: [u64; OPERANDS]) -> [f64; OPERANDS] {
-    let mut xs = [0.0; OPERANDS];
-    let mut i: usize = 0;
-    while i < OPERANDS {
-        xs[i] = double_of(words[i]);
-        i += 1;
+// The next record; STOP at the end of the input and, with the line `bad`, at a record that is not well formed.
+pub fn next_record() -> Record {
+    let mut head = [0u8; 16];
+    let got = io::read_full(STDIN, &mut head);
+    if got == 0 {
+        return bare(STOP);
     }
-    xs
+    if got < 16 {
+        return record_of(BAD, 0);
+    }
+    record_of(word_at(&head, 0), word_at(&head, 8) as usize)
 }

@@ -7,64 +7,81 @@ mod db;
 mod den;
 mod figures;
 mod input;
+mod lent;
 mod output;
+mod rows;
+mod statistics;
 mod window;
 
-use adwin::Adwin;
+use input::Record;
 use input::STOP;
+use input::bare;
 use input::next_record;
-use output::ROOM;
 use output::say;
-use window::Watched;
+use window::watching;
 
-// The kinds of stream, numbered as the operations that open them; NONE before the first.
-const NONE: u64 = 0;
+// Who acts. The streams are numbered as the operations that open them.
+const NOBODY: u64 = 0;
 
 const DBSTREAM: u64 = 1;
 
 const DENSTREAM: u64 = 2;
 
+const WINDOW: u64 = 3;
+
+const END: u64 = 4;
+
+// Whether an opening is accepted; its answer is printed.
+fn opens(r: Record) -> bool {
+    if r.op == DBSTREAM {
+        return db::opens(r);
+    }
+    den::opens(r)
+}
+
+// Who acts on a record while this stream is the current one; what nobody acts on is answered here.
+fn actor(current: u64, r: Record) -> u64 {
+    if r.op == STOP {
+        return END;
+    }
+    if 10 <= r.op && r.op <= 12 {
+        return WINDOW;
+    }
+    if r.op <= DENSTREAM {
+        if opens(r) {
+            return r.op;
+        }
+        return NOBODY;
+    }
+    if current == NOBODY {
+        say(b"none");
+    }
+    current
+}
+
 // Each record acts on the current stream or on the current window; a refused opening leaves the current stream as it was.
 // The three are variables of this loop and of nothing larger, so that a call copies only what it acts on.
 fn main() {
-    let mut db = db::unopened();
-    let mut den = den::unopened();
-    let mut watched = Watched {
-        window: Adwin::new(0.0),
-        open: false,
-    };
-    let mut kind = NONE;
+    let mut db = db::opened(bare(STOP));
+    let mut den = den::opened(bare(STOP));
+    let mut window = watching(0.0, false);
+    let mut current = NOBODY;
     // More records than any input has.
     let mut left: u64 = 0xffff_ffff_ffff;
     while left > 0 {
         let r = next_record();
-        let op = r.op;
-        if op == STOP {
-            return;
-        }
-        if window::is_meant(op) {
-            watched = window::act(watched, r);
-        } else if op == DBSTREAM {
-            let opened = db::open(r);
-            let answer = opened.answer;
-            if answer.is_open() {
-                kind = DBSTREAM;
-                db = opened.stream;
+        match actor(current, r) {
+            END => return,
+            DBSTREAM => {
+                current = DBSTREAM;
+                db = db::act(db, r);
             }
-        } else if op == DENSTREAM {
-            let opened = den::open(r);
-            let answer = opened.answer;
-            if answer.is_open() {
-                kind = DENSTREAM;
-                den = opened.stream;
+            DENSTREAM => {
+                current = DENSTREAM;
+                den = den::act(den, r);
             }
-        } else if kind == DBSTREAM {
-            db = db::act(db, r);
-        } else if kind == DENSTREAM {
-            den = den::act(den, r);
-        } else {
-            let mut line = [0u8; ROOM];
-            say(&mut line, b"none");
+            WINDOW => window = window::act(window, r),
+            _ => {}
         }
         left -= 1;
     }

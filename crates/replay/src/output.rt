@@ -1,4 +1,4 @@
-// A line of standard output, gathered in a buffer so that it is written with few calls. `at` bytes of the buffer are in use.
+// A line of standard output, by value: it is written when it ends and whenever a text finds no room.
 use words::double_text;
 ghost use mathlib.Core.Path.{_≡_};
 ghost use lib.IntN.{pos};
@@ -6,66 +6,74 @@ ghost use lib.Signed.{_≤ℤ_};
 
 const STDOUT: i32 = 1;
 
-// The buffer's length.
-pub const ROOM: usize = 4096;
+// Room for a line of few fields; its fields are short of it by far.
+const ROOM: usize = 512;
 
-// Writes what the buffer holds.
-pub fn flush(line: &[u8], at: usize) {
-    if at <= line.len() {
-        io::write_all(STDOUT, &line[..at]);
-    }
+// The first `len` of the bytes are still to be written.
+pub struct Line {
+    bytes: [u8; ROOM],
+    len: usize,
 }
 
-// One byte more; a full buffer is written first.
-pub fn put_byte(line: &mut [u8], at: usize, byte: u8) -> usize {
-    if at < line.len() {
-        line[at] = byte;
-        return at + 1;
+// Writes what waits.
+fn flush(line: Line) {
+    let bytes = line.bytes;
+    let n = lists::cut(line.len, ROOM);
+    io::write_all(STDOUT, &bytes[..n]);
+}
+
+// Where a text of n bytes goes: behind what waits, or to the start once that is written.
+fn place(line: Line, n: usize) -> usize {
+    let end = lists::cut(line.len, ROOM);
+    if n <= ROOM - end {
+        return end;
     }
-    flush(line, at);
-    if 0 < line.len() {
-        line[0] = byte;
-        return 1;
-    }
+    flush(line);
     0
 }
 
 // A text more.
-pub fn put(line: &mut [u8], from: usize, text: &[u8]) -> usize {
-    let mut at = from;
+pub fn put(line: Line, text: &[u8]) -> Line {
+    let at = lists::cut(place(line, text.len()), ROOM);
+    let n = lists::cut(text.len(), ROOM - at);
+    let mut bytes = line.bytes;
     let mut i: usize = 0;
-    while i < text.len() {
-        at = put_byte(line, at, text[i]);
+    while i < n {
+        bytes[at + i] = text[i];
         i += 1;
     }
-    at
+    Line { bytes, len: at + n }
+}
+
+// A line that starts with a text.
+pub fn start(text: &[u8]) -> Line {
+    let bytes = [0u8; ROOM];
+    put(Line { bytes, len: 0 }, text)
 }
 
 // A space and a whole number.
-pub fn put_number(line: &mut [u8], at: usize, n: u64) -> usize {
+pub fn number(line: Line, n: u64) -> Line {
     let mut digits = [0u8; 20];
     let k = io::decimal(n, &mut digits);
-    let next = put_byte(line, at, b' ');
-    put(line, next, &digits[..k])
+    put(put(line, b" "), &digits[..k])
 }
 
 // A space and a double by its bits.
-pub fn put_double(line: &mut [u8], at: usize, x: f64) -> usize {
+pub fn double(line: Line, x: f64) -> Line {
     let text = double_text(x);
     let bytes = text.bytes;
     let len = text.len;
-    let next = put_byte(line, at, b' ');
-    put(line, next, &bytes[..len])
+    put(put(line, b" "), &bytes[..len])
 }
 
 // A space and a whole double in decimal.
-pub fn put_whole(line: &mut [u8], at: usize, x: f64) -> usize {
+pub fn whole(line: Line, x: f64) -> Line {
     if x > -1.0 {
         if x < 18446744073709551616.0 {
-            return put_number(line, at, std::num::truncating_f64_to_u64(x));
+            return number(line, std::num::truncating_f64_to_u64(x));
         }
     }
-    put_double(line, at, x)
+    double(line, x)
 }
 
 // A label that is not below 0, as a number.
@@ -77,21 +85,19 @@ fn number_of(label: i64) -> u64
 }
 
 // A space and a label.
-pub fn put_label(line: &mut [u8], at: usize, label: i64) -> usize {
+pub fn label(line: Line, label: i64) -> Line {
     if label < 0 {
-        return put(line, at, b" -1");
+        return put(line, b" -1");
     }
-    put_number(line, at, number_of(label))
+    number(line, number_of(label))
 }
 
-// The line's end; the line is written.
-pub fn end(line: &mut [u8], at: usize) {
-    let n = put_byte(line, at, b'\n');
-    flush(line, n);
+// The line's end; all of it is written.
+pub fn end(line: Line) {
+    flush(put(line, b"\n"));
 }
 
 // A line of one text.
-pub fn say(line: &mut [u8], text: &[u8]) {
-    let at = put(line, 0, text);
-    end(line, at);
+pub fn say(text: &[u8]) {
+    end(start(text));
 }

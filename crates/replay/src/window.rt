@@ -1,79 +1,72 @@
 // Operations 10 to 12: a window of its own.
 use crate::input::Record;
-use crate::output::ROOM;
+use crate::output::double;
 use crate::output::end;
-use crate::output::put;
-use crate::output::put_double;
-use crate::output::put_number;
+use crate::output::number;
 use crate::output::say;
+use crate::output::start;
 use adwin::Adwin;
 use adwin::Verdict;
 use adwin_lent::updated;
-use words::double_of;
 
 // The current window, once one is open.
 pub struct Watched {
-    pub window: Adwin,
-    pub open: bool,
+    window: Adwin,
+    open: bool,
 }
 
-// Whether an operation acts on the window.
-pub fn is_meant(op: u64) -> bool {
-    10 <= op && op <= 12
+// A window with this delta.
+pub fn watching(delta: f64, open: bool) -> Watched {
+    let window = Adwin::new(delta);
+    Watched { window, open }
 }
 
-// The window with one value more; the verdict is printed. The streams update theirs by value, this one is lent.
-fn update(line: &mut [u8], window: Adwin, value: f64) -> Adwin {
-    let after = updated(window, value);
-    let next = after.window;
-    let answer = after.answer;
+fn say_verdict(answer: Verdict) {
     match answer {
-        Verdict::Quiet => {
-            say(line, b"quiet");
-            return next;
-        }
-        Verdict::Alarm => {
-            say(line, b"alarm");
-            return next;
-        }
-        Verdict::Full => {
-            say(line, b"refused 8");
-            return next;
-        }
+        Verdict::Quiet => say(b"quiet"),
+        Verdict::Alarm => say(b"alarm"),
+        Verdict::Full => say(b"refused 8"),
+    }
+}
+
+// The window with one value more. The streams update theirs by value, this one is lent.
+fn update(window: Adwin, value: f64) -> Watched {
+    let after = updated(window, value);
+    let answer = after.answer;
+    say_verdict(answer);
+    let next = after.window;
+    Watched {
+        window: next,
+        open: true,
     }
 }
 
 // Width, mean and variance.
-fn show(line: &mut [u8], window: Adwin) {
-    let mut at = put(line, 0, b"window");
-    at = put_number(line, at, window.width() as u64);
-    at = put_double(line, at, window.mean());
-    at = put_double(line, at, window.variance());
-    end(line, at);
+fn show(window: Adwin) {
+    let width = number(start(b"window"), window.width() as u64);
+    end(double(double(width, window.mean()), window.variance()));
 }
 
+// An operation on the open window.
+fn act_on(window: Adwin, op: u64, x: f64) -> Watched {
+    if op == 11 {
+        return update(window, x);
+    }
+    show(window);
+    Watched { window, open: true }
+}
+
+// An operation on the current window.
 pub fn act(w: Watched, r: Record) -> Watched {
-    let mut line = [0u8; ROOM];
-    let words = r.words;
-    let x = double_of(words[0]);
+    let xs = r.doubles;
     if r.op == 10 {
-        say(&mut line, b"ok");
-        return Watched {
-            window: Adwin::new(x),
-            open: true,
-        };
+        say(b"ok");
+        return watching(xs[0], true);
     }
-    if !w.open {
-        say(&mut line, b"none");
-        return w;
+    if w.open {
+        let window = w.window;
+        return act_on(window, r.op, xs[0]);
     }
-    let window = w.window;
-    if r.op == 11 {
-        return Watched {
-            window: update(&mut line, window, x),
-            open: true,
-        };
-    }
-    show(&mut line, window);
+    say(b"none");
     w
 }

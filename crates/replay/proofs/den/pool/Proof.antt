@@ -1,24 +1,23 @@
+-- `pool` reads a pool up to the count. Assumes nothing.
 use Prim.Native.Nat.{_-_}
-use mathlib.Core.Path.{_≡_, refl}
-use lib.ListN.{length}
 use borrow.Author.Needs.{needs}
-use Rattle.replay.proofs.den.put_micros.Statement.{statement}
-use Rattle.replay.proofs.den.put_micros.Tie as tie
+use Rattle.replay.proofs.den.pool.Statement.{statement}
+use Rattle.replay.proofs.den.pool.Tie as tie
 
 abbrev Inv-loop : tie.InvT-loop
-Inv-loop line₀ from n dim micros k at₀ i₀ line at i = length line ≡ length line₀
+Inv-loop count dim held n out₀ i₀ out i = Unit {0}
 
 abbrev μ-loop : tie.MeasureT-loop
-μ-loop line₀ from n dim micros k at₀ i₀ line at i = k - i
+μ-loop count dim held n out₀ i₀ out i = n - i
 
 cut-requires : tie.Need-cut-requires Inv-loop μ-loop
 cut-requires c κs = search needs
 
-put-number-requires : tie.Need-put-number-requires Inv-loop μ-loop
-put-number-requires c κs = search needs
+number-requires : tie.Need-number-requires Inv-loop μ-loop
+number-requires c κs = search needs
 
 loop-holds : tie.Need-loop-holds Inv-loop μ-loop
-loop-holds c = refl
+loop-holds c = tt
 
 mul-m : tie.Need-mul-m Inv-loop μ-loop
 mul-m c = search needs
@@ -26,8 +25,8 @@ mul-m c = search needs
 array-copy-out-m : tie.Need-array-copy-out-m Inv-loop μ-loop
 array-copy-out-m c = search needs
 
-put-micro-requires : tie.Need-put-micro-requires Inv-loop μ-loop
-put-micro-requires c κs = search needs
+micro-requires : tie.Need-micro-requires Inv-loop μ-loop
+micro-requires c κs = search needs
 
 add-i : tie.Need-add-i Inv-loop μ-loop
 add-i c = search needs
@@ -36,28 +35,24 @@ loop-less : tie.Need-loop-less Inv-loop μ-loop
 loop-less c = search needs
 
 loop-again : tie.Need-loop-again Inv-loop μ-loop
-loop-again c = search needs
-
-same-length : tie.Need-same-length Inv-loop μ-loop
-same-length c = search needs
+loop-again c = tt
 
 returns : tie.Need-returns Inv-loop μ-loop
 returns c = tt
 
-pub put-micros-spec : {M : Type 1} → statement M
-put-micros-spec =
+pub pool-spec : {M : Type 1} → statement M
+pool-spec =
     tie.close
     (tie.spec
     Inv-loop
     μ-loop
     cut-requires
-    put-number-requires
+    number-requires
     loop-holds
     mul-m
     array-copy-out-m
-    put-micro-requires
+    micro-requires
     add-i
     loop-less
     loop-again
-    same-length
     returns)

@@ -1,0 +1,16 @@
+-- `label_places` meets its contract. Assumes nothing.
+use mathlib.Core.Path.{sym}
+use native.Mathlib.Omega.{arith}
+use lib.Seq.{length-take-le}
+use borrow.Author.Needs.{needs}
+use Rattle.replay.proofs.lent.label_places.Statement.{statement}
+use Rattle.replay.proofs.lent.label_places.Tie as tie
+
+cut-requires : tie.Need-cut-requires
+cut-requires c κs = search needs
+
+returns : tie.Need-returns
+returns c = (omega arith, sym (length-take-le _ _ (omega arith)))
+
+pub label-places-spec : {M : Type 1} → statement M
+label-places-spec = tie.close (tie.spec cut-requires returns)

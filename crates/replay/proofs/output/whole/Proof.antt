@@ -1,0 +1,28 @@
+-- A double between the tests is cut to a number. Assumes nothing.
+use mathlib.Core.Path.{sym, subst}
+use lib.Dec.{T}
+use lib.Ieee.{ofBits, neg}
+use borrow.Author.Needs.{needs}
+use Rattle.replay.proofs.output.whole.Statement.{statement}
+use Rattle.replay.proofs.output.whole.Tie as tie
+
+truncating-f64-to-u64-requires : tie.Need-truncating-f64-to-u64-requires
+unfolding ofBits neg
+truncating-f64-to-u64-requires c κs = (subst T (sym (c .before .if1 .taken)) tt, subst T (sym (c .if2 .taken)) tt)
+
+number-requires : tie.Need-number-requires
+number-requires c κs = search needs
+
+returns : tie.Need-returns
+returns c = search needs
+
+double-requires : tie.Need-double-requires
+double-requires c κs = search needs
+
+returns-2 : tie.Need-returns-2
+returns-2 c = search needs
+
+pub whole-spec : {M : Type 1} → statement M
+whole-spec =
+    tie.close
+    (tie.spec truncating-f64-to-u64-requires number-requires returns double-requires returns-2)
