@@ -17,6 +17,15 @@ use model::Opening;
 use model::Prediction;
 use model::ReadOut;
 
+pub fn say_ok() {
+    say(b"ok");
+}
+
+// No stream, or no window, to act on.
+pub fn say_none() {
+    say(b"none");
+}
+
 fn say_refused(code: u64) {
     end(number(start(b"refused"), code));
 }
@@ -24,7 +33,7 @@ fn say_refused(code: u64) {
 // Whether the stream is open; the answer is printed.
 pub fn opens(answer: Opening) -> bool {
     if answer.is_open() {
-        say(b"ok");
+        say_ok();
         return true;
     }
     say_refused(answer.number());
@@ -38,7 +47,7 @@ fn say_shape(expected: usize, got: usize) {
 
 pub fn say_insertion(answer: Insertion) {
     match answer {
-        Insertion::Done => say(b"ok"),
+        Insertion::Done => say_ok(),
         Insertion::Shape { expected, got } => say_shape(expected, got),
         Insertion::ClockAtLimit => say_refused(8),
         Insertion::NoPlace => say_refused(9),

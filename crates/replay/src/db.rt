@@ -8,13 +8,13 @@ use crate::lent::places;
 use crate::output::Line;
 use crate::output::double;
 use crate::output::number;
-use crate::output::say;
 use crate::output::start;
 use crate::output::whole;
 use crate::rows;
 use crate::statistics::CENTRES;
 use crate::statistics::say_statistics;
 use dbstream::DbStream;
+use dbstream::Inserted;
 use model::DbMicro;
 use model::DbSettings;
 use model::LINKS;
@@ -23,10 +23,9 @@ use model::MICROS;
 use model::MicroId;
 
 fn settings(r: Record) -> DbSettings {
-    let words = r.words;
-    let xs = r.doubles;
+    let xs = r.xs;
     DbSettings {
-        dim: words[0] as usize,
+        dim: r.a as usize,
         r: xs[1],
         lambda: xs[2],
         alpha: xs[3],
@@ -47,17 +46,21 @@ pub fn opened(r: Record) -> DbStream {
     opened.stream
 }
 
-fn insert(s: DbStream, r: Record) -> DbStream {
-    let xs = r.doubles;
+fn inserted(s: DbStream, r: Record) -> Inserted {
+    let xs = r.xs;
     let n = places(r.count, &xs);
-    let inserted = s.try_insert(&xs[..n]);
-    let answer = inserted.answer;
+    s.try_insert(&xs[..n])
+}
+
+fn insert(s: DbStream, r: Record) -> DbStream {
+    let after = inserted(s, r);
+    let answer = after.answer;
     answers::say_insertion(answer);
-    inserted.stream
+    after.stream
 }
 
 fn predict(s: DbStream, r: Record) {
-    let xs = r.doubles;
+    let xs = r.xs;
     let n = places(r.count, &xs);
     answers::say_prediction(db_readout::try_predict(s, &xs[..n]));
 }
@@ -149,13 +152,12 @@ fn figures(s: DbStream) {
 
 // An operation that changes nothing.
 fn read(s: DbStream, r: Record) {
-    let w = r.words;
     let op = r.op;
     match op {
-        5 => labels(s, w[0] as usize),
+        5 => labels(s, r.a as usize),
         6 => predict(s, r),
-        7 => statistics(s, w[0] as usize, w[1] as usize, w[2] as usize),
-        8 => answers::say_connectivity(db_readout::connectivity(s, MicroId(w[0]), MicroId(w[1]))),
+        7 => statistics(s, r.a as usize, r.b as usize, r.c as usize),
+        8 => answers::say_connectivity(db_readout::connectivity(s, MicroId(r.a), MicroId(r.b))),
         9 => answers::say_drift(s.drift()),
         13 => figures(s),
         _ => counts(s),
@@ -169,7 +171,7 @@ pub fn act(s: DbStream, r: Record) -> DbStream {
         1 => return opened(r),
         3 => return insert(s, r),
         4 => {
-            say(b"ok");
+            answers::say_ok();
             return s.cluster();
         }
         _ => read(s, r),

@@ -7,22 +7,21 @@ use crate::lent::label_places;
 use crate::lent::places;
 use crate::output::Line;
 use crate::output::number;
-use crate::output::say;
 use crate::output::start;
 use crate::output::whole;
 use crate::rows;
 use crate::statistics::CENTRES;
 use crate::statistics::say_statistics;
 use denstream::DenStream;
+use denstream::Inserted;
 use model::DenSettings;
 use model::MICROS;
 use model::Micro;
 
 fn settings(r: Record) -> DenSettings {
-    let words = r.words;
-    let xs = r.doubles;
+    let xs = r.xs;
     DenSettings {
-        dim: words[0] as usize,
+        dim: r.a as usize,
         eps: xs[1],
         lambda: xs[2],
         beta: xs[3],
@@ -43,17 +42,21 @@ pub fn opened(r: Record) -> DenStream {
     opened.stream
 }
 
-fn insert(s: DenStream, r: Record) -> DenStream {
-    let xs = r.doubles;
+fn inserted(s: DenStream, r: Record) -> Inserted {
+    let xs = r.xs;
     let n = places(r.count, &xs);
-    let inserted = s.try_insert(&xs[..n]);
-    let answer = inserted.answer;
+    s.try_insert(&xs[..n])
+}
+
+fn insert(s: DenStream, r: Record) -> DenStream {
+    let after = inserted(s, r);
+    let answer = after.answer;
     answers::say_insertion(answer);
-    inserted.stream
+    after.stream
 }
 
 fn predict(s: DenStream, r: Record) {
-    let xs = r.doubles;
+    let xs = r.xs;
     let n = places(r.count, &xs);
     answers::say_prediction(den_readout::try_predict(s, &xs[..n]));
 }
@@ -129,13 +132,12 @@ fn figures(s: DenStream) {
 
 // An operation that changes nothing.
 fn read(s: DenStream, r: Record) {
-    let w = r.words;
     let op = r.op;
     match op {
-        5 => labels(s, w[0] as usize),
+        5 => labels(s, r.a as usize),
         6 => predict(s, r),
-        7 => statistics(s, w[0] as usize, w[1] as usize, w[2] as usize),
-        8 => say(b"none"),
+        7 => statistics(s, r.a as usize, r.b as usize, r.c as usize),
+        8 => answers::say_none(),
         9 => answers::say_drift(s.drift()),
         13 => figures(s),
         _ => counts(s),
@@ -149,7 +151,7 @@ pub fn act(s: DenStream, r: Record) -> DenStream {
         2 => return opened(r),
         3 => return insert(s, r),
         4 => {
-            say(b"ok");
+            answers::say_ok();
             return s.cluster();
         }
         _ => read(s, r),

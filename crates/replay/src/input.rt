@@ -14,12 +14,14 @@ pub const STOP: u64 = 0;
 // The operation of a record that is not well formed.
 const BAD: u64 = 15;
 
-// The operands as words and as doubles.
+// The first three operands as words, and all of them as doubles.
 pub struct Record {
     pub op: u64,
     pub count: usize,
-    pub words: [u64; OPERANDS],
-    pub doubles: [f64; OPERANDS],
+    pub a: u64,
+    pub b: u64,
+    pub c: u64,
+    pub xs: [f64; OPERANDS],
 }
 
 // A record of no operands.
@@ -27,8 +29,10 @@ pub fn bare(op: u64) -> Record {
     Record {
         op,
         count: 0,
-        words: [0; OPERANDS],
-        doubles: [0.0; OPERANDS],
+        a: 0,
+        b: 0,
+        c: 0,
+        xs: [0.0; OPERANDS],
     }
 }
 
@@ -50,20 +54,19 @@ fn operands(op: u64, count: usize) -> Record {
     if io::read_full(STDIN, &mut bytes[..due]) < due {
         return bare(BAD);
     }
-    let mut words = [0u64; OPERANDS];
-    let mut doubles = [0.0; OPERANDS];
+    let mut xs = [0.0; OPERANDS];
     let mut i: usize = 0;
     while i < count {
-        let word = operand(&bytes, i);
-        words[i] = word;
-        doubles[i] = double_of(word);
+        xs[i] = double_of(operand(&bytes, i));
         i += 1;
     }
     Record {
         op,
         count,
-        words,
-        doubles,
+        a: operand(&bytes, 0),
+        b: operand(&bytes, 1),
+        c: operand(&bytes, 2),
+        xs,
     }
 }
 

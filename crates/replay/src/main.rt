@@ -17,7 +17,6 @@ use input::Record;
 use input::STOP;
 use input::bare;
 use input::next_record;
-use output::say;
 use window::watching;
 
 // Who acts. The streams are numbered as the operations that open them.
@@ -54,7 +53,7 @@ fn actor(current: u64, r: Record) -> u64 {
         return NOBODY;
     }
     if current == NOBODY {
-        say(b"none");
+        answers::say_none();
     }
     current
 }

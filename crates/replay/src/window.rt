@@ -1,4 +1,6 @@
 // Operations 10 to 12: a window of its own.
+use crate::answers::say_none;
+use crate::answers::say_ok;
 use crate::input::Record;
 use crate::output::double;
 use crate::output::end;
@@ -47,10 +49,16 @@ fn show(window: Adwin) {
     end(double(double(width, window.mean()), window.variance()));
 }
 
+// The first operand.
+fn first(r: Record) -> f64 {
+    let xs = r.xs;
+    xs[0]
+}
+
 // An operation on the open window.
-fn act_on(window: Adwin, op: u64, x: f64) -> Watched {
-    if op == 11 {
-        return update(window, x);
+fn act_on(window: Adwin, r: Record) -> Watched {
+    if r.op == 11 {
+        return update(window, first(r));
     }
     show(window);
     Watched { window, open: true }
@@ -58,15 +66,14 @@ fn act_on(window: Adwin, op: u64, x: f64) -> Watched {
 
 // An operation on the current window.
 pub fn act(w: Watched, r: Record) -> Watched {
-    let xs = r.doubles;
     if r.op == 10 {
-        say(b"ok");
-        return watching(xs[0], true);
+        say_ok();
+        return watching(first(r), true);
     }
     if w.open {
         let window = w.window;
-        return act_on(window, r.op, xs[0]);
+        return act_on(window, r);
     }
-    say(b"none");
+    say_none();
     w
 }

@@ -9,10 +9,10 @@ use Rattle.replay.proofs.input.operands.Statement.{statement}
 use Rattle.replay.proofs.input.operands.Tie as tie
 
 abbrev Inv-loop : tie.InvT-loop
-Inv-loop op count bytes due words₀ doubles₀ i₀ words doubles i = (length words ≡ 64) × (length doubles ≡ 64)
+Inv-loop op count bytes due xs₀ i₀ xs i = length xs ≡ 64
 
 abbrev μ-loop : tie.MeasureT-loop
-μ-loop op count bytes due words₀ doubles₀ i₀ words doubles i = count - i
+μ-loop op count bytes due xs₀ i₀ xs i = count - i
 
 bare-requires : tie.Need-bare-requires Inv-loop μ-loop
 bare-requires c κs = search needs
@@ -39,25 +39,19 @@ returns-2 : tie.Need-returns-2 Inv-loop μ-loop
 returns-2 c = tt
 
 loop-holds : tie.Need-loop-holds Inv-loop μ-loop
-loop-holds c = (refl, refl)
+loop-holds c = refl
 
 operand-requires : tie.Need-operand-requires Inv-loop μ-loop
 operand-requires c κs = search needs
 
-mul-words : tie.Need-mul-words Inv-loop μ-loop
-mul-words c = search needs
-
-array-write-words : tie.Need-array-write-words Inv-loop μ-loop
-array-write-words c = search needs
-
 double-of-requires : tie.Need-double-of-requires Inv-loop μ-loop
 double-of-requires c κs = search needs
 
-mul-doubles : tie.Need-mul-doubles Inv-loop μ-loop
-mul-doubles c = search needs
+mul-xs : tie.Need-mul-xs Inv-loop μ-loop
+mul-xs c = search needs
 
-array-write-doubles : tie.Need-array-write-doubles Inv-loop μ-loop
-array-write-doubles c = search needs
+array-write-xs : tie.Need-array-write-xs Inv-loop μ-loop
+array-write-xs c = search needs
 
 add-i : tie.Need-add-i Inv-loop μ-loop
 add-i c = search needs
@@ -66,7 +60,16 @@ loop-less : tie.Need-loop-less Inv-loop μ-loop
 loop-less c = search needs
 
 loop-again : tie.Need-loop-again Inv-loop μ-loop
-loop-again c = (search needs, search needs)
+loop-again c = search needs
+
+operand-requires-2 : tie.Need-operand-requires-2 Inv-loop μ-loop
+operand-requires-2 c κs = search needs
+
+operand-requires-3 : tie.Need-operand-requires-3 Inv-loop μ-loop
+operand-requires-3 c κs = search needs
+
+operand-requires-4 : tie.Need-operand-requires-4 Inv-loop μ-loop
+operand-requires-4 c κs = search needs
 
 returns-3 : tie.Need-returns-3 Inv-loop μ-loop
 returns-3 c = tt
@@ -87,12 +90,13 @@ operands-spec =
     returns-2
     loop-holds
     operand-requires
-    mul-words
-    array-write-words
     double-of-requires
-    mul-doubles
-    array-write-doubles
+    mul-xs
+    array-write-xs
     add-i
     loop-less
     loop-again
+    operand-requires-2
+    operand-requires-3
+    operand-requires-4
     returns-3)
