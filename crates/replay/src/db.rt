@@ -14,7 +14,6 @@ use crate::rows;
 use crate::statistics::CENTRES;
 use crate::statistics::say_statistics;
 use dbstream::DbStream;
-use dbstream::Inserted;
 use model::DbMicro;
 use model::DbSettings;
 use model::LINKS;
@@ -46,14 +45,10 @@ pub fn opened(r: Record) -> DbStream {
     opened.stream
 }
 
-fn inserted(s: DbStream, r: Record) -> Inserted {
+fn insert(s: DbStream, r: Record) -> DbStream {
     let xs = r.xs;
     let n = places(r.count, &xs);
-    s.try_insert(&xs[..n])
-}
-
-fn insert(s: DbStream, r: Record) -> DbStream {
-    let after = inserted(s, r);
+    let after = s.try_insert(&xs[..n]);
     let answer = after.answer;
     answers::say_insertion(answer);
     after.stream

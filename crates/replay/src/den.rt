@@ -13,7 +13,6 @@ use crate::rows;
 use crate::statistics::CENTRES;
 use crate::statistics::say_statistics;
 use denstream::DenStream;
-use denstream::Inserted;
 use model::DenSettings;
 use model::MICROS;
 use model::Micro;
@@ -42,14 +41,10 @@ pub fn opened(r: Record) -> DenStream {
     opened.stream
 }
 
-fn inserted(s: DenStream, r: Record) -> Inserted {
+fn insert(s: DenStream, r: Record) -> DenStream {
     let xs = r.xs;
     let n = places(r.count, &xs);
-    s.try_insert(&xs[..n])
-}
-
-fn insert(s: DenStream, r: Record) -> DenStream {
-    let after = inserted(s, r);
+    let after = s.try_insert(&xs[..n]);
     let answer = after.answer;
     answers::say_insertion(answer);
     after.stream

@@ -11,20 +11,11 @@ use Rattle.replay.proofs.output.flush.Tie as tie
 room : (c : tie.Start) → length (c .args .line .bytes) ≡ 512
 room c = sym (length-map (c .args .line .bytes) _) ∙ c .good .0 .1 .1 .0 .1 .0 .1
 
-cut-requires : tie.Need-cut-requires
-cut-requires c κs = search needs
-
 array-share-prefix-bytes : tie.Need-array-share-prefix-bytes
 array-share-prefix-bytes c = omega (arith, room (c .before .before), c .cut .ensures)
 
 slice-aggregate-write-all : tie.Need-slice-aggregate-write-all
 slice-aggregate-write-all c = sym (length-take-le _ _ (omega (arith, room (c .before .before .before), c .before .cut .ensures)))
 
-write-all-requires : tie.Need-write-all-requires
-write-all-requires c κs = search needs
-
-returns : tie.Need-returns
-returns c = search needs
-
 pub flush-spec : {M : Type 1} → statement M
-flush-spec = tie.close (tie.spec cut-requires array-share-prefix-bytes slice-aggregate-write-all write-all-requires returns)
+flush-spec = tie.close (tie.spec (λ c κs. search needs) array-share-prefix-bytes slice-aggregate-write-all (λ c κs. search needs) (λ c. search needs))

@@ -10,19 +10,7 @@ truncating-f64-to-u64-requires : tie.Need-truncating-f64-to-u64-requires
 unfolding ofBits neg
 truncating-f64-to-u64-requires c κs = (subst T (sym (c .before .if1 .taken)) tt, subst T (sym (c .if2 .taken)) tt)
 
-number-requires : tie.Need-number-requires
-number-requires c κs = search needs
-
-returns : tie.Need-returns
-returns c = search needs
-
-double-requires : tie.Need-double-requires
-double-requires c κs = search needs
-
-returns-2 : tie.Need-returns-2
-returns-2 c = search needs
-
 pub whole-spec : {M : Type 1} → statement M
 whole-spec =
     tie.close
-    (tie.spec truncating-f64-to-u64-requires number-requires returns double-requires returns-2)
+    (tie.spec truncating-f64-to-u64-requires (λ c κs. search needs) (λ c. search needs) (λ c κs. search needs) (λ c. search needs))

@@ -7,34 +7,19 @@ use borrow.Author.Needs.{needs}
 use Rattle.replay.proofs.statistics.centres_of.Statement.{statement}
 use Rattle.replay.proofs.statistics.centres_of.Tie as tie
 
-cut-requires : tie.Need-cut-requires
-cut-requires c κs = search needs
-
-cut-requires-2 : tie.Need-cut-requires-2
-cut-requires-2 c κs = search needs
-
-slice-aggregate-doubles : tie.Need-slice-aggregate-doubles
-slice-aggregate-doubles c = search needs
-
 mul-doubles : tie.Need-mul-doubles
 mul-doubles c =
     let n : c .before .before .cut .result ≤ 64 = omega (arith, c .before .before .cut .ensures) in
     let d : c .before .cut2 .result ≤ 15 = omega (arith, c .before .cut2 .ensures) in
     record { fits = lt-of-le-of-lt (mul-le-mul n d) (lit< tt) }
 
-doubles-requires : tie.Need-doubles-requires
-doubles-requires c κs = search needs
-
-returns : tie.Need-returns
-returns c = search needs
-
 pub centres-of-spec : {M : Type 1} → statement M
 centres-of-spec =
     tie.close
     (tie.spec
-    cut-requires
-    cut-requires-2
-    slice-aggregate-doubles
+    (λ c κs. search needs)
+    (λ c κs. search needs)
+    (λ c. search needs)
     mul-doubles
-    doubles-requires
-    returns)
+    (λ c κs. search needs)
+    (λ c. search needs))
