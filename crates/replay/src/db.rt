@@ -24,7 +24,7 @@ use model::MicroId;
 fn settings(r: Record) -> DbSettings {
     let xs = r.xs;
     DbSettings {
-        dim: r.a as usize,
+        dim: r.a,
         r: xs[1],
         lambda: xs[2],
         alpha: xs[3],
@@ -83,6 +83,10 @@ fn statistics(s: DbStream, c: usize, w: usize, r: usize) {
         &mut radii[..rs],
     );
     say_statistics(answer, s.micro_count(), s.dim(), centres, weights, radii);
+}
+
+fn connectivity(s: DbStream, a: u64, b: u64) {
+    answers::say_connectivity(db_readout::connectivity(s, MicroId(a), MicroId(b)));
 }
 
 fn counts(s: DbStream) {
@@ -149,10 +153,10 @@ fn figures(s: DbStream) {
 fn read(s: DbStream, r: Record) {
     let op = r.op;
     match op {
-        5 => labels(s, r.a as usize),
+        5 => labels(s, r.a),
         6 => predict(s, r),
-        7 => statistics(s, r.a as usize, r.b as usize, r.c as usize),
-        8 => answers::say_connectivity(db_readout::connectivity(s, MicroId(r.a), MicroId(r.b))),
+        7 => statistics(s, r.a, r.b, r.c),
+        8 => connectivity(s, r.a as u64, r.b as u64),
         9 => answers::say_drift(s.drift()),
         13 => figures(s),
         _ => counts(s),

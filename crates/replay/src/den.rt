@@ -20,7 +20,7 @@ use model::Micro;
 fn settings(r: Record) -> DenSettings {
     let xs = r.xs;
     DenSettings {
-        dim: r.a as usize,
+        dim: r.a,
         eps: xs[1],
         lambda: xs[2],
         beta: xs[3],
@@ -129,9 +129,9 @@ fn figures(s: DenStream) {
 fn read(s: DenStream, r: Record) {
     let op = r.op;
     match op {
-        5 => labels(s, r.a as usize),
+        5 => labels(s, r.a),
         6 => predict(s, r),
-        7 => statistics(s, r.a as usize, r.b as usize, r.c as usize),
+        7 => statistics(s, r.a, r.b, r.c),
         8 => answers::say_none(),
         9 => answers::say_drift(s.drift()),
         13 => figures(s),

@@ -14,13 +14,13 @@ pub const STOP: u64 = 0;
 // The operation of a record that is not well formed.
 const BAD: u64 = 15;
 
-// The first three operands as words, and all of them as doubles.
+// The first three operands as whole numbers, and all of them as doubles.
 pub struct Record {
     pub op: u64,
     pub count: usize,
-    pub a: u64,
-    pub b: u64,
-    pub c: u64,
+    pub a: usize,
+    pub b: usize,
+    pub c: usize,
     pub xs: [f64; OPERANDS],
 }
 
@@ -63,9 +63,9 @@ fn operands(op: u64, count: usize) -> Record {
     Record {
         op,
         count,
-        a: operand(&bytes, 0),
-        b: operand(&bytes, 1),
-        c: operand(&bytes, 2),
+        a: operand(&bytes, 0) as usize,
+        b: operand(&bytes, 1) as usize,
+        c: operand(&bytes, 2) as usize,
         xs,
     }
 }
