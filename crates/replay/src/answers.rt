@@ -17,6 +17,7 @@ use model::Opening;
 use model::Prediction;
 use model::ReadOut;
 
+// An opening or an insert that is accepted, or a cluster.
 pub fn say_ok() {
     say(b"ok");
 }
@@ -45,6 +46,7 @@ fn say_shape(expected: usize, got: usize) {
     end(number(line, got as u64));
 }
 
+// Operation 3.
 pub fn say_insertion(answer: Insertion) {
     match answer {
         Insertion::Done => say_ok(),
@@ -54,6 +56,7 @@ pub fn say_insertion(answer: Insertion) {
     }
 }
 
+// Operation 5: as many labels as were written.
 pub fn say_labels(answer: ReadOut, read: [i64; MICROS], count: usize) {
     let ReadOut::Written = answer else {
         say_refused(10);
@@ -62,6 +65,7 @@ pub fn say_labels(answer: ReadOut, read: [i64; MICROS], count: usize) {
     end(labels(start(b"labels"), read, count));
 }
 
+// Operation 6.
 pub fn say_prediction(answer: Prediction) {
     match answer {
         Prediction::Label(l) => end(label(start(b"label"), l)),
@@ -69,6 +73,7 @@ pub fn say_prediction(answer: Prediction) {
     }
 }
 
+// Operation 8.
 pub fn say_connectivity(answer: Connectivity) {
     match answer {
         Connectivity::Density(density) => end(double(start(b"connectivity"), density)),
@@ -84,6 +89,7 @@ fn last_tick(line: Line, last: LastAlarm) -> Line {
     double(line, t)
 }
 
+// Operation 9.
 pub fn say_drift(d: DriftReport) {
     let last = d.last_alarm;
     let alarms = number(start(b"drift"), d.alarms);
@@ -91,6 +97,7 @@ pub fn say_drift(d: DriftReport) {
     end(number(mean, d.window as u64));
 }
 
+// Operation 14.
 pub fn say_counts(dim: usize, micros: usize, families: usize) {
     let line = number(start(b"counts"), dim as u64);
     end(number(number(line, micros as u64), families as u64));

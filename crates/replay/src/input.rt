@@ -83,7 +83,7 @@ fn is_known(op: u64, count: usize) -> bool {
     }
 }
 
-// The record of these 16 bytes and of the operands behind them.
+// The record of this head and of the operands behind it.
 fn record_of(op: u64, count: usize) -> Record {
     let r = operands(op, count);
     if is_known(r.op, r.count) {

@@ -6,7 +6,7 @@ ghost use lib.Signed.{_≤ℤ_};
 
 const STDOUT: i32 = 1;
 
-// Room for a line of few fields; its fields are short of it by far.
+// Room for a line of few fields; no text that is put is longer.
 const ROOM: usize = 512;
 
 // The first `len` of the bytes are still to be written.

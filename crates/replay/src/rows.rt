@@ -1,10 +1,11 @@
-// Rows of figures in a line: how many, then each.
+// Rows of figures in a line.
 use crate::output::Line;
 use crate::output::double;
 use crate::output::label;
 use crate::output::number;
 use model::MICROS;
 
+// How many labels, then each.
 pub fn labels(line: Line, xs: [i64; MICROS], count: usize) -> Line {
     let n = lists::cut(count, MICROS);
     let mut out = number(line, n as u64);

@@ -1,3 +1,4 @@
+-- A label that is not below 0 is its own number. Assumes nothing.
 use mathlib.Core.Path.{sym, subst, _∙_}
 use native.Mathlib.Nat.{lt-of-le-of-lt}
 use lib.IntN.{ℤ, pos, natAbs}
@@ -14,7 +15,10 @@ read-pos : (c : tie.Start) → pos 0 ≤ℤ toZ w64 (ofZ w64 (c .args .label))
 read-pos c = subst (λ (z : ℤ). pos 0 ≤ℤ z) (sym (toZ-ofZ w64 (c .args .label) (c .fits .label))) (c .pre)
 
 cast-result : tie.Need-cast-result
-cast-result c = (yes-nonNeg (read-pos c), subst (λ (z : ℤ). Fits w64 (natAbs z)) (sym (toZ-ofZ w64 (c .args .label) (c .fits .label))) (record { fits = lt-of-le-of-lt (natAbs-le (c .args .label) (c .fits .label .sfits)) (lit< tt) }))
+cast-result c =
+    let back = sym (toZ-ofZ w64 (c .args .label) (c .fits .label)) in
+    let below = lt-of-le-of-lt (natAbs-le (c .args .label) (c .fits .label .sfits)) (lit< tt) in
+    (yes-nonNeg (read-pos c), subst (λ (z : ℤ). Fits w64 (natAbs z)) back (record { fits = below }))
 
 returns : tie.Need-returns
 returns c = pos-natAbs _ (yes-nonNeg (read-pos c)) ∙ toZ-ofZ w64 (c .args .label) (c .fits .label)
