@@ -95,8 +95,8 @@ fn counts(s: DbStream) {
 
 fn micro(line: Line, m: DbMicro, dim: usize) -> Line {
     let id = m.id;
-    let cf = m.cf;
-    feature(whole(number(line, id.0), m.last), cf, dim)
+    let body = m.body;
+    feature(whole(number(line, id.0), body.last), body.cf, dim)
 }
 
 // How many micro-clusters, then each.

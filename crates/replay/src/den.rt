@@ -13,9 +13,9 @@ use crate::rows;
 use crate::statistics::CENTRES;
 use crate::statistics::say_statistics;
 use denstream::DenStream;
+use model::DenMicro;
 use model::DenSettings;
 use model::MICROS;
-use model::Micro;
 
 fn settings(r: Record) -> DenSettings {
     let xs = r.xs;
@@ -92,13 +92,13 @@ fn counts(s: DenStream) {
     answers::say_counts(s.dim(), s.potential_count(), den_readout::n_clusters(s));
 }
 
-fn micro(line: Line, m: Micro, dim: usize) -> Line {
-    let cf = m.cf;
-    feature(whole(whole(line, m.last), m.t0), cf, dim)
+fn micro(line: Line, m: DenMicro, dim: usize) -> Line {
+    let body = m.body;
+    feature(whole(whole(line, body.last), m.t0), body.cf, dim)
 }
 
 // How many of a pool, then each.
-fn pool(line: Line, held: [Micro; MICROS], count: usize, dim: usize) -> Line {
+fn pool(line: Line, held: [DenMicro; MICROS], count: usize, dim: usize) -> Line {
     let n = lists::cut(count, MICROS);
     let mut out = number(line, n as u64);
     let mut i: usize = 0;
