@@ -11,7 +11,7 @@ use Rattle.den_pool.specs.Held.{seen}
 use Rattle.den_placement.specs.Pools.{potentialHeld}
 use Rattle.den_grouping.specs.Group.{labelsIn}
 use Rattle.denstream.specs.declared.stream.DenStream.{DenStream}
-use Rattle.denstream.specs.View.{view, dimOf}
+use Rattle.denstream.specs.View.{view, dimOf, heldIn}
 
 -- n potential ones are held
 module _ (s : DenStream) (n : ℕ) (en : n ≡ potentialHeld (s .«potential_count»)) where
@@ -19,7 +19,7 @@ module _ (s : DenStream) (n : ℕ) (en : n ≡ potentialHeld (s .«potential_cou
   labelledBy k = labelsIn (s .params) (s .t) (seen (dimOf s) k (s .potential))
 
   labels-are : labelledBy n ≡ labelsOf (view s)
-  unfolding labelsIn labelsOf
+  unfolding labelsIn labelsOf heldIn
   labels-are = ap labelledBy en
 
   pub clustered : (labels : List ℤ) → take n labels ≡ labelledBy n → labelled (view s) (take n labels) ≡ clusterOf (view s)

@@ -15,7 +15,7 @@ use Rattle.den_placement.specs.Pools.{potentialHeld, outliersHeld}
 use Rattle.den_placement.specs.Placing.{Ready}
 use Rattle.den_placement.specs.Laws.Pools as laws
 use Rattle.denstream.specs.declared.stream.DenStream.{DenStream}
-use Rattle.denstream.specs.View.{view, dimOf}
+use Rattle.denstream.specs.View.{view, dimOf, heldIn}
 use Rattle.denstream.specs.Inside.Placed.{placedBy}
 
 -- the pools hold np and no micro-clusters
@@ -46,21 +46,25 @@ cleared s = over s (s .potential) (s .«potential_count») (s .outliers) (s .«o
 
 module _ {s : DenStream} {p : Placement} {np no : ℕ} (c : Counted s p np no) where
   pub potential-low : p .target ≡ Potential → p .place < microsMost
+  unfolding heldIn
   potential-low e =
       laws.potential-low (dimOf s) (s .potential) (s .«potential_count») (s .outliers) (s .«outlier_count») (p .target) (p .place)
       (p .micro) (c .ready) e (c .potential-size)
 
   pub outlier-low : p .target ≡ Outlier → p .place < microsMost
+  unfolding heldIn
   outlier-low e =
       laws.outlier-low (dimOf s) (s .potential) (s .«potential_count») (s .outliers) (s .«outlier_count») (p .target) (p .place)
       (p .micro) (c .ready) e (c .outliers-size)
 
   pub promotion-low : p .target ≡ Promotion → np < microsMost
+  unfolding heldIn
   promotion-low e =
       laws.promotion-low (dimOf s) (s .potential) (s .«potential_count») (s .outliers) (s .«outlier_count») (c .potential-size)
       (c .outliers-size) np (c .potential-held) no (c .outliers-held) (p .target) (p .place) (p .micro) (c .ready) e
 
   pub newborn-low : p .target ≡ Newborn → np + no < microsMost
+  unfolding heldIn
   newborn-low e =
       laws.newborn-low (dimOf s) (s .potential) (s .«potential_count») (s .outliers) (s .«outlier_count») (c .potential-size)
       (c .outliers-size) np (c .potential-held) no (c .outliers-held) (p .target) (p .place) (p .micro) (c .ready) e
@@ -68,6 +72,7 @@ module _ {s : DenStream} {p : Placement} {np no : ℕ} (c : Counted s p np no) w
   pub to-potential :
       p .target ≡ Potential →
       view (over s (set (s .potential) (p .place) (p .micro)) (s .«potential_count») (s .outliers) (s .«outlier_count»)) ≡ placedBy s p
+  unfolding heldIn
   to-potential e =
       ap (taking (view s))
       (laws.potential-absorbs (dimOf s) (s .potential) (s .«potential_count») (s .outliers) (s .«outlier_count») (p .target) (p .place) (p .micro) e)
@@ -75,6 +80,7 @@ module _ {s : DenStream} {p : Placement} {np no : ℕ} (c : Counted s p np no) w
   pub to-outlier :
       p .target ≡ Outlier →
       view (over s (s .potential) (s .«potential_count») (set (s .outliers) (p .place) (p .micro)) (s .«outlier_count»)) ≡ placedBy s p
+  unfolding heldIn
   to-outlier e =
       ap (taking (view s))
       (laws.outlier-absorbs (dimOf s) (s .potential) (s .«potential_count») (s .outliers) (s .«outlier_count») (p .target) (p .place) (p .micro) e)
@@ -82,6 +88,7 @@ module _ {s : DenStream} {p : Placement} {np no : ℕ} (c : Counted s p np no) w
   pub to-promotion :
       p .target ≡ Promotion → (rest : Pool) → held rest ≡ without (p .place) (take no (s .outliers)) → rest .count ≡ length (held rest) →
       view (over s (set (s .potential) np (p .micro)) (np + 1) (rest .micros) (rest .count)) ≡ placedBy s p
+  unfolding heldIn
   to-promotion e rest el cl =
       ap (taking (view s))
       (laws.promotes (dimOf s) (s .potential) (s .«potential_count») (s .outliers) (s .«outlier_count») (c .potential-size) (c .outliers-size)
@@ -90,6 +97,7 @@ module _ {s : DenStream} {p : Placement} {np no : ℕ} (c : Counted s p np no) w
   pub to-newborn :
       p .target ≡ Newborn →
       view (over s (s .potential) (s .«potential_count») (set (s .outliers) no (p .micro)) (no + 1)) ≡ placedBy s p
+  unfolding heldIn
   to-newborn e =
       ap (taking (view s))
       (laws.comes (dimOf s) (s .potential) (s .«potential_count») (s .outliers) (s .«outlier_count») (c .potential-size) (c .outliers-size)

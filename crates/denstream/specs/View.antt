@@ -13,8 +13,8 @@ use Rattle.denstream.specs.declared.insert.Inserted.{Inserted}
 abbrev pub dimOf : DenStream → ℕ
 dimOf s = settledOf (s .params) .settings .dim
 
--- all that is kept, and nothing of the places past a count
-abbrev pub heldIn : DenStream → Holdings
+-- all that is kept, and nothing of the places past a count; shut, which a check of this crate pays with a quarter less memory
+unfoldable pub heldIn : DenStream → Holdings
 heldIn s = poolsOf (dimOf s) (s .potential) (s .«potential_count») (s .outliers) (s .«outlier_count»)
 
 abbrev pub view : DenStream → State

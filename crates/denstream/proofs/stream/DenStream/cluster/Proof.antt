@@ -3,8 +3,10 @@ use borrow.Author.Needs.{needs}
 use Rattle.denstream.proofs.Labels.{clustered}
 use Rattle.denstream.proofs.stream.DenStream.cluster.Statement.{statement}
 use Rattle.denstream.proofs.stream.DenStream.cluster.Tie as tie
+use Rattle.denstream.specs.View.{heldIn}
 
 returns : tie.Need-returns
+unfolding heldIn
 returns c =
     let s = c .before .before .before .before .args .self in
     let n = c .before .potential-held in

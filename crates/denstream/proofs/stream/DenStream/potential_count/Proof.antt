@@ -6,11 +6,12 @@ use borrow.Author.Needs.{needs}
 use Rattle.model.specs.Limits.{microsMost}
 use Rattle.den_placement.specs.Pools.{potentialHeld}
 use Rattle.den_placement.specs.Laws.Pools.{held-length}
-use Rattle.denstream.specs.View.{dimOf}
+use Rattle.denstream.specs.View.{dimOf, heldIn}
 use Rattle.denstream.proofs.stream.DenStream.potential_count.Statement.{statement}
 use Rattle.denstream.proofs.stream.DenStream.potential_count.Tie as tie
 
 returns : tie.Need-returns
+unfolding heldIn
 returns c =
     let s = c .before .args .self in
     let room : length (s .potential) ≡ microsMost = sym (length-map (s .potential) _) ∙ c .before .good .0 .1 .1 .1 .1 .0 .1 .0 .1 in

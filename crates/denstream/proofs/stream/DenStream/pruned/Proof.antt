@@ -5,11 +5,12 @@ use borrow.Author.Needs.{needs}
 use Rattle.model.specs.Limits.{microsMost}
 use Rattle.model.specs.Stream.{holding}
 use Rattle.den_placement.specs.Laws.Pools.{prunes}
-use Rattle.denstream.specs.View.{view, dimOf}
+use Rattle.denstream.specs.View.{view, dimOf, heldIn}
 use Rattle.denstream.proofs.stream.DenStream.pruned.Statement.{statement}
 use Rattle.denstream.proofs.stream.DenStream.pruned.Tie as tie
 
 returns : tie.Need-returns
+unfolding heldIn
 returns c =
     let e = c .before .before .before .before .before .before .before .before .before in
     let s = e .args .self in

@@ -6,7 +6,7 @@ use Rattle.model.specs.declared.clock.Clock.{Clock}
 use Rattle.model.specs.Ticking.{tickTold, tickedOf}
 use Rattle.model.specs.Laws.Stream.{ticked}
 use Rattle.model.specs.Denstream.{denstream}
-use Rattle.denstream.specs.View.{view}
+use Rattle.denstream.specs.View.{view, heldIn}
 use Rattle.denstream.proofs.stream.DenStream.tick.Statement.{statement}
 use Rattle.denstream.proofs.stream.DenStream.tick.Tie as tie
 
@@ -18,6 +18,7 @@ told :
 told c = c .tick .ensures ∙ ap (λ (q : Clock). tickedOf q (c .before .before .before .args .near)) (c .before .at .ensures)
 
 returns : tie.Need-returns
+unfolding heldIn
 returns c =
     let k = c .before .before .before .before .before .before .before in
     let a = k .before .before .before .args in
@@ -25,6 +26,7 @@ returns c =
     ticked denstream (view (a .self)) (a .near) (tickTold (k .tick .result)) (told k) true (view (c .pruned .result)) due (c .pruned .ensures)
 
 returns-2 : tie.Need-returns-2
+unfolding heldIn
 returns-2 c =
     let k = c .before .before .before .before .before .before in
     let a = k .before .before .before .args in

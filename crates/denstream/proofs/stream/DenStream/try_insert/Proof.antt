@@ -6,7 +6,7 @@ use lib.ListN.{take}
 use Rattle.model.specs.Laws.Insert.{point-is}
 use Rattle.model.specs.Laws.Numbers.{inserted-as}
 use Rattle.model.specs.Denstream.{denstream}
-use Rattle.denstream.specs.View.{view, dimOf}
+use Rattle.denstream.specs.View.{view, dimOf, heldIn}
 use Rattle.denstream.proofs.Inserts.{Met, placing, room, inserted}
 use Rattle.denstream.proofs.stream.DenStream.try_insert.Statement.{statement}
 use Rattle.denstream.proofs.stream.DenStream.try_insert.Tie as tie
@@ -20,6 +20,7 @@ met :
     let s = came c .args .self in
     let d = c .before .before .before .before .before .cut .result in
     Met s (came c .args .x .now) (take (dimOf s) (c .before .before .before .before .padded .result)) d (c .place .result)
+unfolding heldIn
 met c =
     let e = came c in
     let d = c .before .before .before .before .before .cut in
