@@ -74,11 +74,11 @@ impl DenStream {
         ensures said { λ r. ⌜ insertionSaid (r .answer)
             ≡ insertionNo (view self .params .settings .dim) (length (now (x .entry))) (view self .t) (hasPlace (view self) (now (x .entry))) ⌝ }
     {
-        let dim = lists::cut(self.params.settings.dim, MAX_DIM);
+        let params = self.params;
+        let dim = lists::cut(params.settings.dim, MAX_DIM);
         let point = model::padded(x);
         let potential = self.potential;
         let outliers = self.outliers;
-        let params = self.params;
         let p = den_placement::place(
             potential,
             self.potential_count,

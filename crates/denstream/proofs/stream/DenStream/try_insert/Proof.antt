@@ -18,13 +18,13 @@ came c = c .before .before .before .before .before .before .before
 met :
     (c : tie.After-place) →
     let s = came c .args .self in
-    let d = c .before .before .before .before .before .cut .result in
-    Met s (came c .args .x .now) (take (dimOf s) (c .before .before .before .before .padded .result)) d (c .place .result)
+    let d = c .before .before .before .before .cut .result in
+    Met s (came c .args .x .now) (take (dimOf s) (c .before .before .before .padded .result)) d (c .place .result)
 unfolding heldIn
 met c =
     let e = came c in
-    let d = c .before .before .before .before .before .cut in
-    let p = c .before .before .before .before .padded in
+    let d = c .before .before .before .before .cut in
+    let p = c .before .before .before .padded in
     record {
       coordinates = d .ensures;
       point = λ ex. point-is (e .args .x .now) (p .result) (dimOf (e .args .self)) (ex ∙ d .ensures) (omega arith) (p .ensures);
