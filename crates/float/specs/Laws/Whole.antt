@@ -1,14 +1,14 @@
 -- Whole numbers as doubles: `whole n` is n as a double.
 -- Up to 2 ^ 53 sums, differences, products, remainders and comparisons of them are those of the numbers. Assumes nothing.
-use mathlib.Core.Path.{_≡_, refl, sym, ap, _∙_, subst}
+use mathlib.Core.Path.{_≡_, refl, sym, ap, _∙_}
 use Prim.Native.Nat.{ℕ, zero, suc, _+_, _-_, _*_, _%_, _^_, _≤_, _<_}
 use native.Mathlib.Nat.{le-trans, le-of-eq, le-of-lt, mul-one, mul-comm, mul-assoc, mul-mul-mul-comm, add-mul, mul-le-mul-right}
 use native.Mathlib.Nat.{mul-lt-mul-of-pos-right, lt-of-mul-lt-mul-right, eq-of-mul-eq-mul-right, mul-sub, mul-pos, mul-mod-left, mul-div-cancel}
-use native.Mathlib.Nat.{mod-lt, eq-or-lt-of-le}
+use native.Mathlib.Nat.{eq-or-lt-of-le}
 use native.Mathlib.Omega.{arith}
 use mathlib.Core.Bool.{Bool, true, false, _&&_, _||_, true≢false}
 use lib.IntN.{ℤ}
-use lib.Dec.{T, ltb, leb, eqb, eqb→eq, ltb→lt, lt→ltb, lit<, le→leb, leb→le, eqb-refl, eqb·suc-zero}
+use lib.Dec.{T, ltb, leb, eqb, eqb→eq, ltb→lt, lt→ltb, lit<, le→leb, leb→le, eqb·suc-zero}
 use lib.Ieee.{Float, nan, inf, fin, Format, binary64, up, down, round, add, sub, mul, rem, lt, le, eq, ofInt, ofBits}
 use lib.Ieee.Fits.{down-pos, eq→eqb}
 use lib.Ieee.Back.{round-whole}
@@ -16,7 +16,7 @@ use lib.Ieee.Bits.{cond-no}
 use lib.Arith.{mod-mul}
 use mathlib.Core.Logic.{inl, inr}
 use lib.Ieee.Scale.{round-same}
-use Rattle.float.specs.Rounded.{_⊕_, _⊖_, nought, one, whole, Is}
+use Rattle.float.specs.Rounded.{_⊕_, _⊖_, one, whole, Is}
 use Rattle.float.specs.Laws.Opened.{add-fin, sum-same, sum-away, mul-fin}
 use Rattle.float.specs.Laws.Compare.{same, or-l, or-r}
 
@@ -181,16 +181,3 @@ rem-is (fin false m e) (fin false (suc l) d) n k K p q =
     rem-opened m e l d
     ∙ rounded (n % k) (m * up e * down d % (suc l * up d * down e)) (down e * down d) (mul-pos (down-pos e) (down-pos d))
     (rw (size m e n (down d) (p .1), size' (suc l) d k (down e) (q .1)) (mod-scaled n k (down e * down d) K (mul-pos (down-pos e) (down-pos d))))
-
--- t is a multiple of p, as the code may ask it: t % p == 0.0
-pub multiple-is : (n k : ℕ) → n ≤ 2 ^ 53 → 0 < k → k ≤ 2 ^ 53 → eq (rem binary64 (whole n) (whole k)) nought ≡ eqb (n % k) 0
-unfolding ofBits
-multiple-is n k h K l =
-    rw (rem-is (whole n) (whole k) n k K (whole-is n h) (whole-is k l))
-    (eq-is (whole (n % k)) nought (n % k) 0 (whole-is (n % k) (le-trans (le-of-lt (mod-lt n K)) l)) (refl, refl))
-
--- one number only
-pub whole-inj : (n k : ℕ) → n ≤ 2 ^ 53 → k ≤ 2 ^ 53 → whole n ≡ whole k → n ≡ k
-whole-inj n k h l e =
-    eqb→eq n k (subst T (eq-is (whole n) (whole k) n k (whole-is n h) (whole-is k l))
-    (rw e (subst T (sym (eq-is (whole k) (whole k) k k (whole-is k l) (whole-is k l))) (eqb-refl k))))

@@ -18,7 +18,7 @@ use Rattle.model.specs.Fading.{isMultiple}
 use Rattle.model.specs.Ticking.{Tick}
 use Rattle.model.specs.Outcome.{Outcome, outcome}
 use Rattle.model.specs.Laws.Insert.{never, asked-cases, same-answer, taken-asks}
-use Rattle.model.specs.Stream.{State, Kind, holding, taking, advanced, cleanedOf, tickOf, takenOf, hasPlace, insertBy, insertOf, clusterOf}
+use Rattle.model.specs.Stream.{State, Kind, holding, taking, advanced, cleanedOf, tickOf, takenOf, hasPlace, insertBy, insertOf}
 
 module _ {S P H : Type 0} (k : Kind S P H) where
   -- ---- the tick
@@ -105,13 +105,10 @@ module _ {S P H : Type 0} (k : Kind S P H) where
   refused-nothing place s x =
       insert-cases place s x (λ (r : Outcome (State P H)). r .answer ≢ Done → r .stream ≡ s) (λ a h q. refl) (λ l e q. absurd (q refl))
 
-  -- ---- labels: "Insert clears labels.", a refused one keeps them, a cluster leaves its own
+  -- ---- "Insert clears labels."
   pub insert-clears :
       (place : State P H → List Float → Bool) (s : State P H) (x : List Float) → insertBy k place s x .answer ≡ Done →
       insertBy k place s x .stream .labels ≡ []
   insert-clears place s x =
       insert-cases place s x (λ (r : Outcome (State P H)). r .answer ≡ Done → r .stream .labels ≡ [])
       (λ a h q. never (sym h ∙ ap isDone q)) (λ l e q. tick-labels (taking s (k .placed s x)) (k .nearestFor s x))
-
-  pub cluster-labels : (s : State P H) → clusterOf k s .labels ≡ k .labelsOf s
-  cluster-labels s = refl
