@@ -11,9 +11,9 @@ use Rattle.drift.specs.declared.DriftReport.{DriftReport}
 use Rattle.model.specs.declared.micro.MicroId.{MicroId}
 use Rattle.text.specs.declared.text.Text.{Text}
 use Rattle.text.specs.Ascii.{ascii}
-use Rattle.text.specs.Text.{room, Added}
+use Rattle.text.specs.Text.{room, Added, Within}
 use Rattle.text.specs.Laws.Pieces.{nothing, both, worded}
-use Rattle.text.specs.Laws.Sizes.{Within, piece, beside, number-within, integer-within}
+use Rattle.text.specs.Laws.Sizes.{piece, beside, number-within, integer-within}
 use Rattle.families_lines.specs.Lines.{lineOf, linesOf, lastLine}
 
 lines-suc :

@@ -10,8 +10,7 @@ ghost use mathlib.Core.Path.{_≡_};
 ghost use mathlib.Core.List.{_++_};
 ghost use lib.ListN.{take};
 ghost use Rattle.model.specs.Limits.{microsMost};
-ghost use Rattle.text.specs.Text.{textOf, Added};
-ghost use Rattle.text.specs.Laws.Sizes.{Within};
+ghost use Rattle.text.specs.Text.{textOf, Added, Within};
 ghost use Rattle.families_lines.specs.Lines.{lineOf, linesOf, lastLine};
 
 // Creation number and label.

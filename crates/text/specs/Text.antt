@@ -3,7 +3,7 @@ use Prim.Native.Nat.{ℕ, zero, suc, _≤_}
 use mathlib.Core.Path.{_≡_}
 use mathlib.Core.Logic.{_⊎_}
 use mathlib.Core.List.{List, [], _++_}
-use lib.ListN.{take}
+use lib.ListN.{length, take}
 use Rattle.text.specs.declared.text.Text.{Text}
 use Rattle.text.specs.Ascii.{ascii}
 
@@ -17,6 +17,10 @@ textOf t = take (t .len) (t .bytes)
 pub record Added (text : Text) (piece : List ℕ) (after : Text) : Type 0 where
   pub is : textOf after ≡ take room (textOf text ++ piece)
   pub len : (after .len ≤ room) ⊎ (after .len ≡ text .len)
+
+-- a piece of at most n bytes
+pub record Within (p : List ℕ) (n : ℕ) : Type 0 where
+  pub is : length p ≤ n
 
 -- the pieces f 0, f 1, .. , f (n − 1), one after another
 unfoldable pub each : (ℕ → List ℕ) → ℕ → List ℕ

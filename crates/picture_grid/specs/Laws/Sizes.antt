@@ -11,7 +11,8 @@ use lib.Ieee.{Float, nan, inf, fin, up, down, ofBits, lt, neg, isNan, toUnsigned
 use lib.Ieee.Fits.{down-pos}
 use Rattle.float.specs.Rounded.{_⊕_, nought}
 use Rattle.text.specs.Ascii.{ascii}
-use Rattle.text.specs.Laws.Sizes.{of-either, Within, piece, wider, beside, either, each-within, blanks-within, digits-within, number-within, right-within}
+use Rattle.text.specs.Laws.Sizes.{of-either, piece, wider, beside, either, each-within, blanks-within, digits-within, number-within, right-within}
+use Rattle.text.specs.Text.{Within}
 use Rattle.picture_grid.specs.declared.grid.Plot.{Plot}
 use Rattle.picture_grid.specs.declared.upward.Upward.{Upward}
 use Rattle.picture_grid.specs.declared.upward.Upward.the-variants.{BeatError, Amplitude}

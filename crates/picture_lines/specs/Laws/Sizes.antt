@@ -15,8 +15,8 @@ use lib.Ieee.{Float}
 use Rattle.float.specs.Rounded.{_⊗_}
 use Rattle.model.specs.Limits.{microsMost}
 use Rattle.text.specs.Ascii.{ascii}
-use Rattle.text.specs.Text.{room, each}
-use Rattle.text.specs.Laws.Sizes.{Within, piece, wider, beside, either, each-within, number-within}
+use Rattle.text.specs.Text.{room, each, Within}
+use Rattle.text.specs.Laws.Sizes.{piece, wider, beside, either, each-within, number-within}
 use Rattle.picture_grid.specs.declared.grid.Plot.{Plot}
 use Rattle.picture_grid.specs.declared.upward.Upward.{Upward}
 use Rattle.picture_grid.specs.declared.upward.Upward.the-variants.{BeatError, Amplitude}

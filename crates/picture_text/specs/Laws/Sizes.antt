@@ -23,8 +23,8 @@ use Rattle.model.specs.Stream.{tickOf, takenOf, fresh, insertBy}
 use Rattle.model.specs.DbState.{State, Settings}
 use Rattle.model.specs.Dbstream.{dbstream, openOf, insertOf, clusterOf, labelsReadOf}
 use Rattle.text.specs.Ascii.{ascii}
-use Rattle.text.specs.Text.{room}
-use Rattle.text.specs.Laws.Sizes.{of-either, Within, piece, wider, beside, either, number-within}
+use Rattle.text.specs.Text.{room, Within}
+use Rattle.text.specs.Laws.Sizes.{of-either, piece, wider, beside, either, number-within}
 use Rattle.input_session.specs.Input.{settingsIn, pointsIn, isWhole}
 use Rattle.input_session.specs.Session.{insertAll, Ran, ran, insertedRan, openedRan, ranOf}
 use Rattle.picture_lines.specs.Laws.Sizes.{page-within}

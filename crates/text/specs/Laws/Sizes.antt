@@ -13,16 +13,13 @@ use lib.ListN.{length, length-append}
 use lib.Signed.{mag}
 use Rattle.io.specs.Digits.{glyph}
 use Rattle.text.specs.Ascii.{ascii}
-use Rattle.text.specs.Text.{each, blanks}
+use Rattle.text.specs.Text.{Within, each, blanks}
 use Rattle.text.specs.Decimal.{digitsIn, decimal, integer, right}
 
 -- what holds of both holds of either
 pub of-either : {A : Type 0} (P : A → Type 0) (b : Bool) (x y : A) → P x → P y → P (cond b x y)
 of-either P true x y p q = p
 of-either P false x y p q = q
-
-pub record Within (p : List ℕ) (n : ℕ) : Type 0 where
-  pub is : length p ≤ n
 
 pub piece : (p : List ℕ) → Within p (length p)
 piece p = record { is = le-refl (length p) }

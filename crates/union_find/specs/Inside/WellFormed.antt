@@ -7,7 +7,7 @@ use mathlib.Core.List.{List}
 use lib.Dec.{eqb}
 use lib.ListN.{length, getD}
 use Rattle.union_find.specs.declared.forest.UnionFind.{UnionFind}
-use Rattle.union_find.specs.Laws.Sum.{sum}
+use Rattle.union_find.specs.Inside.Sum.{sum}
 use Rattle.union_find.specs.Forest.{places, up}
 
 -- a root of rank k weighs 2^k, any other place nothing

@@ -1,5 +1,4 @@
--- Sums of a function over the numbers below n.
--- Assumes nothing.
+-- Sums of a function over the numbers below n. Assumes nothing.
 use Prim.Native.Nat.{ℕ, zero, suc, _+_, _<_, _≤_}
 use mathlib.Core.Path.{_≡_, refl, sym, _∙_, ap, ap₂}
 use mathlib.Core.Logic.{_≢_, by-cases}
@@ -8,11 +7,7 @@ use native.Mathlib.Omega.{arith}
 use native.Mathlib.Decide.{ℕ-discrete}
 use lib.Dec.{eqb}
 use borrow.Author.Tests.{eq-eqb, ne-eqb}
-
--- f 0 + .. + f (n − 1)
-abbrev pub sum : ℕ → (ℕ → ℕ) → ℕ
-sum zero f = 0
-sum (suc n) f = sum n f + f n
+use Rattle.union_find.specs.Inside.Sum.{sum}
 
 -- equal values have equal sums
 pub sum-agree : (n : ℕ) (f g : ℕ → ℕ) → ((i : ℕ) → i < n → f i ≡ g i) → sum n f ≡ sum n g

@@ -12,7 +12,8 @@ use lib.ListN.{length, getD, set, length-set}
 use lib.Seq.{getD-set-same, getD-set-other}
 use lib.Pow.{pow-mono}
 use borrow.Author.Tests.{eq-eqb, ne-eqb}
-use Rattle.union_find.specs.Laws.Sum.{sum, sum-agree, sum-has, sum-two}
+use Rattle.union_find.specs.Laws.Sum.{sum-agree, sum-has, sum-two}
+use Rattle.union_find.specs.Inside.Sum.{sum}
 use Rattle.union_find.specs.Inside.WellFormed.{weigh, WellFormed}
 use Rattle.union_find.specs.Laws.Merging.{Merged, redirected}
 use Rattle.union_find.specs.Forest.{places, up, halve}
