@@ -21,8 +21,11 @@ small n h = let l : clockMost + 1 ≤ 2 ^ 53 = lit≤ tt in omega arith
 
 below-limit : (n : ℕ) (t : Float) → Counts n t → lt t clockLimit ≡ true → n < clockMost
 below-limit n t c l =
-    ltb-true n clockMost (sym (lt-is (whole n) clockLimit n clockMost (whole-is n (omega (arith, small n (c .limit)))) limit-is) ∙ ap (λ (u : Float). lt u clockLimit) (sym (c .exact)) ∙ l)
+    let below : lt (whole n) clockLimit ≡ true = ap (λ (u : Float). lt u clockLimit) (sym (c .exact)) ∙ l in
+    let counted = lt-is (whole n) clockLimit n clockMost (whole-is n (omega (arith, small n (c .limit)))) limit-is in
+    ltb-true n clockMost (sym counted ∙ below)
 
+-- an accepted insert adds 1 to the clock without rounding
 pub one-tick : (n : ℕ) (t : Float) → Counts n t → lt t clockLimit ≡ true → Counts (n + 1) (t ⊕ one)
 one-tick n t c l =
     record {
@@ -30,6 +33,7 @@ one-tick n t c l =
       limit = (let b : n < clockMost = below-limit n t c l in omega arith);
     }
 
+-- a fresh stream has counted none
 pub starts : Counts 0 nought
 unfolding ofInt ofBits
 starts = record { exact = refl; limit = omega arith }

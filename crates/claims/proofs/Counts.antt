@@ -8,6 +8,7 @@ use lib.IntN.{ℤ, pos, negsuc}
 use Rattle.labels.specs.Label.{placeIn, labelsFrom, labelsOf}
 use Rattle.labels.specs.Laws.Label.{labelAt, metBy}
 
+-- −1, or a count from 0
 abbrev pub Counted : ℤ → Type 0
 Counted k = (k ≡ negsuc 0) ⊎ ((c : ℕ) × (k ≡ pos c))
 

@@ -6,8 +6,11 @@ use lib.Ieee.{Float}
 use Rattle.model.specs.DbState.{Holdings, State}
 use Rattle.model.specs.DbInsert.{isAbsorbed, born, joined, placed}
 
+-- what holds of an absorbed point and of a new micro-cluster holds of the placed point
 pub placed-cases :
-    (P : Holdings → Type 0) (s : State) (x : List Float) → (isAbsorbed s x ≡ true → P (joined s x)) → (isAbsorbed s x ≡ false → P (born s x)) →
+    (P : Holdings → Type 0) (s : State) (x : List Float) →
+    (isAbsorbed s x ≡ true → P (joined s x)) →
+    (isAbsorbed s x ≡ false → P (born s x)) →
     P (placed s x)
 placed-cases P s x old new = go (isAbsorbed s x) refl
   where

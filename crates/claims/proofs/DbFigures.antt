@@ -45,12 +45,14 @@ pairs-ascend : (ids : List MicroId) → Ascending Smaller ids → Ascending Pair
 unfolding pairsOf
 pairs-ascend [] u = tt
 pairs-ascend (a ∷ bs) u =
+    let above : Each (λ (q : MicroId × MicroId). Smaller a (q .0)) (pairsOf bs) =
+    pairs-each (λ c d. Smaller a c) bs (u .1) (λ c d i j l. each-in (Smaller a) bs c (u .0) i) in
     subst (λ (ps : List (MicroId × MicroId)). Ascending PairBefore (ps ++ pairsOf bs)) (smaller-first a bs (u .0))
     (ascending-append PairBefore (map (λ (b : MicroId). (a, b)) bs) (pairsOf bs)
     (ascending-map Smaller PairBefore (λ (b : MicroId). (a, b)) (λ (b c : MicroId) (h : Smaller b c). inr (refl, h)) bs (u .1))
     (pairs-ascend bs (u .1))
     (each-map (Smaller a) (λ (p : MicroId × MicroId). Each (PairBefore p) (pairsOf bs)) (λ (b : MicroId). (a, b))
-    (λ (b : MicroId) (h : Smaller a b). each-more (λ (q : MicroId × MicroId) (g : Smaller a (q .0)). inl g) (pairsOf bs) (pairs-each (λ c d. Smaller a c) bs (u .1) (λ c d i j l. each-in (Smaller a) bs c (u .0) i)))
+    (λ (b : MicroId) (h : Smaller a b). each-more (λ (q : MicroId × MicroId) (g : Smaller a (q .0)). inl g) (pairsOf bs) above)
     bs (u .0)))
 
 -- ---- links: each gains once in an insert
@@ -61,15 +63,23 @@ and-both false b e = absurd (true≢false (sym e))
 
 module _ (lambda t : Float) where
   gain-figure :
-      (P Q : Link → Type 0) (room : Bool) (k : Link) → ((l : Link) → P l → Q l) → ((l : Link) → sameEnds l k ≡ true → P l → Q (gains lambda t l)) →
-      Q (gains lambda t k) → (ls : List Link) → Each P ls → Each Q (gainIn lambda t room k ls)
+      (P Q : Link → Type 0) (room : Bool) (k : Link) →
+      ((l : Link) → P l → Q l) →
+      ((l : Link) → sameEnds l k ≡ true → P l → Q (gains lambda t l)) →
+      Q (gains lambda t k) →
+      (ls : List Link) →
+      Each P ls →
+      Each Q (gainIn lambda t room k ls)
   unfolding gainIn
   gain-figure P Q true k stays gain new [] e = (new, tt)
   gain-figure P Q false k stays gain new [] e = tt
   gain-figure P Q room k stays gain new (l ∷ ls) e = go (before l k) (sameEnds l k) room refl (gain-figure P Q room k stays gain new ls (e .1))
     where
-      go : (a b c : Bool) → sameEnds l k ≡ b → Each Q (gainIn lambda t room k ls)
-          → Each Q (cond a (l ∷ gainIn lambda t room k ls) (cond b (gains lambda t l ∷ ls) (cond c (gains lambda t k ∷ l ∷ ls) (l ∷ ls))))
+      go :
+          (a b c : Bool) →
+          sameEnds l k ≡ b →
+          Each Q (gainIn lambda t room k ls) →
+          Each Q (cond a (l ∷ gainIn lambda t room k ls) (cond b (gains lambda t l ∷ ls) (cond c (gains lambda t k ∷ l ∷ ls) (l ∷ ls))))
       go true b c q ih = (stays l (e .0), ih)
       go false true c q ih = (gain l q (e .0), each-more stays ls (e .1))
       go false false true q ih = (new, (stays l (e .0), each-more stays ls (e .1)))
@@ -80,7 +90,12 @@ module _ (lambda t : Float) where
     abbrev Gaining : List (MicroId × MicroId) → Link → Type 0
     Gaining ps l = Weighed (n + 1) (l .value) (l .last) × (In (l .lo, l .hi) ps → Weighed n (l .value) (l .last))
 
-    gain-one : (p : MicroId × MicroId) (ps : List (MicroId × MicroId)) → Each (PairBefore p) ps → (ls : List Link) → Each (Gaining (p ∷ ps)) ls → Each (Gaining ps) (gainOf lambda t ls p)
+    gain-one :
+        (p : MicroId × MicroId) (ps : List (MicroId × MicroId)) →
+        Each (PairBefore p) ps →
+        (ls : List Link) →
+        Each (Gaining (p ∷ ps)) ls →
+        Each (Gaining ps) (gainOf lambda t ls p)
     gain-one p ps u ls g =
         gain-figure (Gaining (p ∷ ps)) (Gaining ps) (hasRoom ls) k (λ (l : Link) (w : Gaining (p ∷ ps) l). (w .0, (λ i. w .1 (inr i)))) again
         (regains n nought t lambda t clock zero-least (zero-most n (clock .limit)), (λ i. absurd (once (p .0) (p .1) refl refl i))) ls g
@@ -100,7 +115,12 @@ module _ (lambda t : Float) where
             let v : Weighed n (l .value) (l .last) = w .1 (inl z) in
             (regains n (l .value) (l .last) lambda t clock (above-0 (l .value) (v .least)) (v .most), (λ i. absurd (once (l .lo) (l .hi) x y i)))
 
-    gain-all : (ps : List (MicroId × MicroId)) → Ascending PairBefore ps → (ls : List Link) → Each (Gaining ps) ls → Each (Gaining []) (foldl (gainOf lambda t) ls ps)
+    gain-all :
+        (ps : List (MicroId × MicroId)) →
+        Ascending PairBefore ps →
+        (ls : List Link) →
+        Each (Gaining ps) ls →
+        Each (Gaining []) (foldl (gainOf lambda t) ls ps)
     gain-all [] u ls g = g
     gain-all (p ∷ ps) u ls g = gain-all ps (u .1) (gainOf lambda t ls p) (gain-one p ps (u .0) ls g)
 
@@ -111,7 +131,10 @@ record Kept (n dim : ℕ) (h : Holdings) : Type 0 where
 
 -- ---- a point taken
 figures-joined :
-    (n : ℕ) (s : State) (x : List Float) → Counts n (s .t) → Ascending Older (s .held .micros) → Kept n (s .params .settings .dim) (s .held) →
+    (n : ℕ) (s : State) (x : List Float) →
+    Counts n (s .t) →
+    Ascending Older (s .held .micros) →
+    Kept n (s .params .settings .dim) (s .held) →
     Kept (n + 1) (s .params .settings .dim) (joined s x)
 figures-joined n s x f asc g =
     record {
@@ -126,13 +149,18 @@ figures-joined n s x f asc g =
     }
   where
     either :
-        (m : DbMicro) → KeptBody n (s .params .settings .dim) (m .body) → (b : Bool) →
+        (m : DbMicro) →
+        KeptBody n (s .params .settings .dim) (m .body) →
+        (b : Bool) →
         KeptBody (n + 1) (s .params .settings .dim) (cond b (absorbs (s .params .settings .lambda) (s .t) x m) m .body)
     either m k true = body-absorbing n (s .params .settings .dim) (s .t) x f (s .params .settings .lambda) (m .body) k
     either m k false = body-later n (s .params .settings .dim) (m .body) (f .limit) k
 
 figures-born :
-    (n : ℕ) (s : State) (x : List Float) → Counts n (s .t) → Ascending Older (s .held .micros) → Kept n (s .params .settings .dim) (s .held) →
+    (n : ℕ) (s : State) (x : List Float) →
+    Counts n (s .t) →
+    Ascending Older (s .held .micros) →
+    Kept n (s .params .settings .dim) (s .held) →
     Kept (n + 1) (s .params .settings .dim) (born s x)
 figures-born n s x f asc g =
     record {

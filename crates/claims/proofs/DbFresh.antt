@@ -23,7 +23,8 @@ use Rattle.model.specs.Stream.{taking}
 use Rattle.model.specs.Laws.Stream.{tick-cases}
 use Rattle.claims.specs.Lists.{In, Each, Ascending}
 use Rattle.claims.specs.DbClaims.{Older, Before, Live, LinksHeld, FromFresh, after, told}
-use Rattle.claims.proofs.Order.{and-true, each-more, each-append, ascending-snoc, in-append, each-retain, ascending-retain, retain-passes, in-retain, any-in, each-map, ascending-map, in-map, map-in}
+use Rattle.claims.proofs.Order.{and-true, each-more, each-append, ascending-snoc, in-append, each-retain, ascending-retain, retain-passes}
+use Rattle.claims.proofs.Order.{in-retain, any-in, each-map, ascending-map, in-map, map-in}
 use Rattle.claims.proofs.Runs.{always, clock-counts}
 use Rattle.claims.proofs.DbCases.{placed-cases}
 use Rattle.claims.proofs.DbGains.{Smaller, gain-each, gain-ascending, fold-gain, pairs-each}
@@ -41,11 +42,15 @@ more-live ms ns h ls g =
     }
 
 -- ---- one gain, of a pair of live numbers, the smaller first
+-- both numbers are live, the smaller first
 abbrev pub GoodPair : List DbMicro → MicroId × MicroId → Type 0
 GoodPair ms p = Smaller (p .0) (p .1) × (Live ms (p .0 .0) × Live ms (p .1 .0))
 
+-- links that are held stay so where such a pair gains, with room or without
 pub a-gain :
-    (lambda t : Float) (room : Bool) (ms : List DbMicro) (ls : List Link) (p : MicroId × MicroId) → LinksHeld ms ls → GoodPair ms p →
+    (lambda t : Float) (room : Bool) (ms : List DbMicro) (ls : List Link) (p : MicroId × MicroId) →
+    LinksHeld ms ls →
+    GoodPair ms p →
     LinksHeld ms (gainIn lambda t room (absent (p .0) (p .1) t) ls)
 a-gain lambda t room ms ls p g q =
     record {
@@ -54,12 +59,16 @@ a-gain lambda t room ms ls p g q =
       ends = gain-each lambda t (λ a b. Live ms a × Live ms b) room (absent (p .0) (p .1) t) ls (q .1) (g .ends);
     }
 
+-- and so for the room that the list has
 pub one-gain :
-    (lambda t : Float) (ms : List DbMicro) (ls : List Link) (p : MicroId × MicroId) → LinksHeld ms ls → GoodPair ms p →
+    (lambda t : Float) (ms : List DbMicro) (ls : List Link) (p : MicroId × MicroId) →
+    LinksHeld ms ls →
+    GoodPair ms p →
     LinksHeld ms (gainOf lambda t ls p)
 one-gain lambda t ms ls p g q = a-gain lambda t (hasRoom ls) ms ls p g q
 
 -- ---- an absorbed point: a micro-cluster keeps its number
+-- absorbed or not, the number stays
 pub absorbed-id : (r lambda t : Float) (x : List Float) (m : DbMicro) → absorbed r lambda t x m .id ≡ m .id
 absorbed-id r lambda t x m = go (isNeighbour r x m)
   where
@@ -72,11 +81,13 @@ pub record Joining (s : State) (x : List Float) : Type 0 where
   pub pairs : Each (GoodPair (joined s x .micros)) (pairsOf (map idOf (neighboursOf s x)))
   pub links : LinksHeld (joined s x .micros) (s .held .links)
 
+-- the neighbours' numbers ascend, as their micro-clusters do
 pub neighbours-ascend : (s : State) (x : List Float) → Ascending Older (s .held .micros) → Ascending Smaller (map idOf (neighboursOf s x))
 neighbours-ascend s x u =
     ascending-map Older Smaller idOf (λ (a b : DbMicro) (h : Older a b). h) (neighboursOf s x)
     (ascending-retain Older (isNeighbour (s .params .settings .r) x) (s .held .micros) u)
 
+-- so every pair of neighbours is a good one
 pub joining : (s : State) (x : List Float) → Ascending Older (s .held .micros) → LinksHeld (s .held .micros) (s .held .links) → Joining s x
 joining s x u g =
     record {
@@ -91,7 +102,8 @@ joining s x u g =
     live : (a : ℕ) → Live (s .held .micros) a → Live (joined s x .micros) a
     live a l =
         let f : DbMicro → DbMicro = absorbed (s .params .settings .r) (s .params .settings .lambda) (s .t) x in
-        (f (l .0), in-map f (s .held .micros) (l .0) (l .1), ap (λ (i : MicroId). i .0) (absorbed-id (s .params .settings .r) (s .params .settings .lambda) (s .t) x (l .0)) ∙ l .2)
+        let keeps : f (l .0) .id ≡ l .0 .id = absorbed-id (s .params .settings .r) (s .params .settings .lambda) (s .t) x (l .0) in
+        (f (l .0), in-map f (s .held .micros) (l .0) (l .1), ap (λ (i : MicroId). i .0) keeps ∙ l .2)
 
     known : (a : MicroId) → In a (map idOf (neighboursOf s x)) → Live (joined s x .micros) (a .0)
     known a i =
@@ -189,6 +201,7 @@ numbered-cleanup n p t h g =
         (is-live (l .lo) (b .0), is-live (l .hi) (b .1))
 
 -- ---- a point taken
+-- an accepted insert, with its cleanup where one is due
 pub numbered-taken : (n : ℕ) (s : State) (x : List Float) → n ≤ clockMost → Numbered n (s .held) → Numbered (n + 1) (takenOf s x .held)
 numbered-taken n s x small g =
     tick-cases dbstream (taking s (placed s x)) (nearestFor s x) (λ (u : State). Numbered (n + 1) (u .held))
@@ -207,10 +220,12 @@ unfolding leastOf
 none-near p x = refl
 
 -- ---- the whole run
+-- after every insert of a list
 pub numbered-run : (p : Settings) (xs : List (List Float)) → Numbered (acceptedIn (told p xs)) (after p xs .held)
 numbered-run p xs =
     always dbstream hasPlace (λ (n : ℕ) (s : State). Numbered n (s .held)) (λ n s x c e. numbered-taken n s x (c .limit)) p (numbered-fresh p) xs
 
+-- with the clock: what the claim says
 pub from-fresh : (p : Settings) (xs : List (List Float)) → FromFresh (acceptedIn (told p xs)) (after p xs)
 from-fresh p xs =
     let g : Numbered (acceptedIn (told p xs)) (after p xs .held) = numbered-run p xs in

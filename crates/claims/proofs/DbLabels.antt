@@ -53,12 +53,20 @@ module _ (s : State) where
       later : JoinedBy ls i j → JoinedBy (l ∷ ls) i j
       later k = record { link = k .link; held = inr (k .held); does = k .does; lo = k .lo; hi = k .hi }
 
-      go : (b : Bool) → joins s l ≡ b → Listed (cond b (endsOf s l ∷ joinsOf s ls) (joinsOf s ls)) i j → (Listed (joinsOf s ls) i j → JoinedBy ls i j) → JoinedBy (l ∷ ls) i j
+      go :
+          (b : Bool) →
+          joins s l ≡ b →
+          Listed (cond b (endsOf s l ∷ joinsOf s ls) (joinsOf s ls)) i j →
+          (Listed (joinsOf s ls) i j → JoinedBy ls i j) →
+          JoinedBy (l ∷ ls) i j
       go true e k ih = ⊎-elim (λ q. record { link = l; held = inl refl; does = e; lo = q .0; hi = q .1 }) (λ q. later (ih q)) k
       go false e k ih = later (ih k)
 
   by-joined :
-      (ls : List Link) (l : Link) → In l ls → joins s l ≡ true → Listed (joinsOf s ls) (placeOf (s .held .micros) (l .lo)) (placeOf (s .held .micros) (l .hi))
+      (ls : List Link) (l : Link) →
+      In l ls →
+      joins s l ≡ true →
+      Listed (joinsOf s ls) (placeOf (s .held .micros) (l .lo)) (placeOf (s .held .micros) (l .hi))
   unfolding joinsOf
   by-joined [] l h e = absurd h
   by-joined (k ∷ ls) l h e = go (joins s k) refl (by-joined ls l)
@@ -207,6 +215,7 @@ module _ (s : State) where
           let a = at-there (labelsOf s) i h in
           subst (λ (v : ℤ). At (labelsOf s) i v) (sym (at-getD (labelsOf s) i (a .0) (negsuc 0) (a .1)) ∙ e) (a .1)
 
+      -- the claim: labels tell families
       pub labels-tell : LabelsTellFamilies (clusterOf s)
       labels-tell =
           record {

@@ -58,8 +58,9 @@ onward-taken n s x f small =
     tick-cases dbstream (taking s (placed s x)) (nearestFor s x) (λ (u : State). Onward (s .held) (u .held))
     (record {
       next = o .next;
-      old =
-          λ a h l. o .old a h (l .0, in-retain (microStays (s .params .settings .lambda) (s .params .floor) (s .t ⊕ one)) (placed s x .micros) (l .0) (l .1), l .2);
+      old = λ a h l.
+          let there = in-retain (microStays (s .params .settings .lambda) (s .params .floor) (s .t ⊕ one)) (placed s x .micros) (l .0) (l .1) in
+          o .old a h (l .0, there, l .2);
     }) o
   where
     o : Onward (s .held) (placed s x)
@@ -80,9 +81,14 @@ module _ (g : Holdings) where
         onward = record { next = omega (arith, o .next, r .next); old = λ a b l. o .old a b (r .old a (omega (arith, o .next)) l) };
       }
 
+-- the claim, of any split of the list of inserts
 pub never-reused :
-    (p : Settings) (xs earlier later : List (List Float)) → earlier ++ later ≡ xs → (a : ℕ) → a < after p earlier .held .next →
-    Live (after p xs .held .micros) a → Live (after p earlier .held .micros) a
+    (p : Settings) (xs earlier later : List (List Float)) →
+    earlier ++ later ≡ xs →
+    (a : ℕ) →
+    a < after p earlier .held .next →
+    Live (after p xs .held .micros) a →
+    Live (after p earlier .held .micros) a
 never-reused p xs earlier later e a h l =
     run-keeps dbstream hasPlace (Since s) (since-taken s) later n (after p earlier) (clock-counts dbstream hasPlace p earlier)
     (record { numbered = numbered-run p earlier; onward = record { next = omega arith; old = λ a h l. l } }) .1 .onward .old a h

@@ -14,13 +14,17 @@ use Rattle.claims.specs.Lists.{At, Ascending}
 use Rattle.claims.specs.DbClaims.{Older}
 use Rattle.claims.proofs.Places.{not-none, at-in, each-in}
 
+-- what stands at the place of a number has this number
 pub place-at : (ms : List DbMicro) (a : MicroId) (m : DbMicro) → At ms (placeOf ms a) m → m .id .0 ≡ a .0
 unfolding placeOf
 place-at [] a m h = absurd (not-none h)
 place-at (n ∷ ms) a m h = go (eqb (n .id .0) (a .0)) refl h (place-at ms a m)
   where
     go : (b : Bool) → eqb (n .id .0) (a .0) ≡ b → At (n ∷ ms) (cond b 0 (suc (placeOf ms a))) m → (At ms (placeOf ms a) m → m .id .0 ≡ a .0) → m .id .0 ≡ a .0
-    go true e k ih = let q : some n ≡ some m = k in let r : n ≡ m = cc in ap (λ (u : DbMicro). u .id .0) (sym r) ∙ eqb-true (n .id .0) (a .0) e
+    go true e k ih =
+        let q : some n ≡ some m = k in
+        let r : n ≡ m = cc in
+        ap (λ (u : DbMicro). u .id .0) (sym r) ∙ eqb-true (n .id .0) (a .0) e
     go false e k ih = ih k
 
 -- where the numbers ascend, each stands at its own place
@@ -33,4 +37,5 @@ own-place (n ∷ ms) u zero m h =
     ap (λ (b : Bool). cond b 0 (suc (placeOf ms (m .id)))) (eq-eqb (n .id .0) (m .id .0) (ap (λ (u : DbMicro). u .id .0) r))
 own-place (n ∷ ms) u (suc i) m h =
     let l : n .id .0 < m .id .0 = each-in (Older n) ms m (u .0) (at-in ms i m h) in
-    ap (λ (b : Bool). cond b 0 (suc (placeOf ms (m .id)))) (ne-eqb (n .id .0) (m .id .0) (λ (q : n .id .0 ≡ m .id .0). omega arith)) ∙ ap suc (own-place ms (u .1) i m h)
+    let other : eqb (n .id .0) (m .id .0) ≡ false = ne-eqb (n .id .0) (m .id .0) (λ (q : n .id .0 ≡ m .id .0). omega arith) in
+    ap (λ (b : Bool). cond b 0 (suc (placeOf ms (m .id)))) other ∙ ap suc (own-place ms (u .1) i m h)

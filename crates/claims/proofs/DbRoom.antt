@@ -16,7 +16,7 @@ use Rattle.lists.specs.Laws.Sizes.{retain-length}
 use Rattle.model.specs.declared.micro.MicroId.{MicroId}
 use Rattle.model.specs.declared.micro.DbMicro.{DbMicro}
 use Rattle.model.specs.declared.link.Link.{Link}
-use Rattle.model.specs.Limits.{microsMost, linksMost, clockMost}
+use Rattle.model.specs.Limits.{microsMost, linksMost}
 use Rattle.model.specs.Run.{acceptedIn}
 use Rattle.model.specs.DbState.{Settings, Holdings, State}
 use Rattle.model.specs.DbInsert.{idOf, pairsOf, gains, absent, before, sameEnds, gainIn, hasRoom, gainOf, newborn, absorbed, microStays, neighboursOf, joined}
@@ -39,12 +39,11 @@ ascending-length [] (c ∷ cs) u w e = absurd (e .0)
 ascending-length (b ∷ bs) (c ∷ cs) u w e =
     ⊎-elim
     (λ (q : c ≡ b).
-    let h : length cs ≤ length bs = ascending-length bs cs (u .1) (w .1) (each-more (λ (d : ℕ) (g : (c < d) × In d (b ∷ bs)). past d (omega arith) (g .1)) cs (both cs (w .0) (e .1))) in
+    let h : length cs ≤ length bs = ascending-length bs cs (u .1) (w .1) (others (omega arith)) in
     omega arith)
     (λ (i : In c bs).
     let l : b < c = each-in (b <_) bs c (u .0) i in
-    let h : length (c ∷ cs) ≤ length bs =
-    ascending-length bs (c ∷ cs) (u .1) w (i, each-more (λ (d : ℕ) (g : (c < d) × In d (b ∷ bs)). past d (omega arith) (g .1)) cs (both cs (w .0) (e .1))) in
+    let h : length (c ∷ cs) ≤ length bs = ascending-length bs (c ∷ cs) (u .1) w (i, others (omega arith)) in
     omega arith)
     (e .0)
   where
@@ -55,14 +54,22 @@ ascending-length (b ∷ bs) (c ∷ cs) u w e =
     both [] p q = tt
     both (d ∷ l) p q = ((p .0, q .0), both l (p .1) (q .1))
 
+    -- those behind c are above b, so among those behind b
+    others : b ≤ c → Each (λ (d : ℕ). In d bs) cs
+    others h = each-more (λ (d : ℕ) (g : (c < d) × In d (b ∷ bs)). past d (omega arith) (g .1)) cs (both cs (w .0) (e .1))
+
 -- a list is what passes a test and what does not
 length-split : {A : Type 0} (p : A → Bool) (l : List A) → length l ≡ length (retain p l) + length (retain (λ (a : A). not (p a)) l)
 unfolding retain
 length-split p [] = refl
 length-split {A} p (a ∷ l) = go (p a) (length-split p l)
   where
-    go : (b : Bool) → length l ≡ length (retain p l) + length (retain (λ (a : A). not (p a)) l)
-        → suc (length l) ≡ length (cond b (a ∷ retain p l) (retain p l)) + length (cond (not b) (a ∷ retain (λ (a : A). not (p a)) l) (retain (λ (a : A). not (p a)) l))
+    go :
+        (b : Bool) →
+        length l ≡ length (retain p l) + length (retain (λ (a : A). not (p a)) l) →
+        suc (length l)
+        ≡ length (cond b (a ∷ retain p l) (retain p l))
+        + length (cond (not b) (a ∷ retain (λ (a : A). not (p a)) l) (retain (λ (a : A). not (p a)) l))
     go true e = omega arith
     go false e = omega arith
 
@@ -74,21 +81,27 @@ record Within (ids : List ℕ) (ls : List Link) : Type 0 where
 
 his-ascend : (a : ℕ) (ls : List Link) → Each (λ (l : Link). l .lo .0 ≡ a) ls → Ascending Before ls → Ascending _<_ (map (λ (l : Link). l .hi .0) ls)
 his-ascend a [] e h = tt
-his-ascend a (l ∷ ls) e h = (each-map (λ (k : Link). Before l k × (k .lo .0 ≡ a)) (l .hi .0 <_) (λ (k : Link). k .hi .0) above ls (both ls (h .0) (e .1)), his-ascend a ls (e .1) (h .1))
+his-ascend a (l ∷ ls) e h = (least, his-ascend a ls (e .1) (h .1))
   where
     above : (k : Link) → Before l k × (k .lo .0 ≡ a) → l .hi .0 < k .hi .0
-    above k g = ⊎-elim (λ (q : l .lo .0 < k .lo .0). absurd (let x : l .lo .0 ≡ a = e .0 in let y : k .lo .0 ≡ a = g .1 in omega arith)) (λ q. q .1) (g .0)
+    above k g =
+        let x : l .lo .0 ≡ a = e .0 in
+        let y : k .lo .0 ≡ a = g .1 in
+        ⊎-elim (λ (q : l .lo .0 < k .lo .0). absurd (omega arith)) (λ q. q .1) (g .0)
 
     both : (ks : List Link) → Each (Before l) ks → Each (λ (k : Link). k .lo .0 ≡ a) ks → Each (λ (k : Link). Before l k × (k .lo .0 ≡ a)) ks
     both [] p q = tt
     both (k ∷ ks) p q = ((p .0, q .0), both ks (p .1) (q .1))
+
+    least : Each (l .hi .0 <_) (map (λ (k : Link). k .hi .0) ls)
+    least = each-map (λ (k : Link). Before l k × (k .lo .0 ≡ a)) (l .hi .0 <_) (λ (k : Link). k .hi .0) above ls (both ls (h .0) (e .1))
 
 -- no more links than pairs of the numbers
 pairs-most : (ids : List ℕ) → Ascending _<_ ids → (ls : List Link) → Within ids ls → 2 * length ls + length ids ≤ length ids * length ids
 pairs-most [] u [] w = omega arith
 pairs-most [] u (l ∷ ls) w = absurd (w .ends .0 .0)
 pairs-most (a ∷ ids) u ls w =
-    let h : length (retain firsts ls) ≤ length ids = subst (λ (k : ℕ). k ≤ length ids) (length-map (retain firsts ls) (λ (l : Link). l .hi .0)) (ascending-length ids (map (λ (l : Link). l .hi .0) (retain firsts ls)) (u .1) (his-ascend a (retain firsts ls) starts (ascending-retain Before firsts ls (w .ascending))) his) in
+    let h : length (retain firsts ls) ≤ length ids = firsts-most in
     let r : 2 * length (retain others ls) + length ids ≤ length ids * length ids = pairs-most ids (u .1) (retain others ls) rest in
     let e : length ls ≡ length (retain firsts ls) + length (retain others ls) = length-split firsts ls in
     let q : suc (length ids) * suc (length ids) ≡ length ids * length ids + 2 * length ids + 1 = simp (mul-suc, suc-mul) (omega arith) in
@@ -104,7 +117,11 @@ pairs-most (a ∷ ids) u ls w =
     Known : Link → Type 0
     Known l = (l .lo .0 < l .hi .0) × In (l .lo .0) (a ∷ ids) × In (l .hi .0) (a ∷ ids)
 
-    known : (ks : List Link) → Each (λ (l : Link). l .lo .0 < l .hi .0) ks → Each (λ (l : Link). In (l .lo .0) (a ∷ ids) × In (l .hi .0) (a ∷ ids)) ks → Each Known ks
+    known :
+        (ks : List Link) →
+        Each (λ (l : Link). l .lo .0 < l .hi .0) ks →
+        Each (λ (l : Link). In (l .lo .0) (a ∷ ids) × In (l .hi .0) (a ∷ ids)) ks →
+        Each Known ks
     known [] p q = tt
     known (k ∷ ks) p q = ((p .0, q .0 .0, q .0 .1), known ks (p .1) (q .1))
 
@@ -121,11 +138,25 @@ pairs-most (a ∷ ids) u ls w =
     starts : Each (λ (l : Link). l .lo .0 ≡ a) (retain firsts ls)
     starts = each-more (λ (l : Link) (e : firsts l ≡ true). eqb-true (l .lo .0) a e) (retain firsts ls) (retain-passes firsts ls)
 
+    first : (l : Link) → Known l × (firsts l ≡ true) → In (l .hi .0) ids
+    first l g =
+        let e : l .lo .0 ≡ a = eqb-true (l .lo .0) a (g .1) in
+        let h : l .lo .0 < l .hi .0 = g .0 .0 in
+        past (l .hi .0) (λ (q : l .hi .0 ≡ a). omega arith) (g .0 .2)
+
     his : Each (λ (c : ℕ). In c ids) (map (λ (l : Link). l .hi .0) (retain firsts ls))
     his =
         each-map (λ (l : Link). Known l × (firsts l ≡ true)) (λ (c : ℕ). In c ids) (λ (l : Link). l .hi .0)
-        (λ (l : Link) (g : Known l × (firsts l ≡ true)). let e : l .lo .0 ≡ a = eqb-true (l .lo .0) a (g .1) in let h : l .lo .0 < l .hi .0 = g .0 .0 in past (l .hi .0) (λ (q : l .hi .0 ≡ a). omega arith) (g .0 .2))
-        (retain firsts ls) (with-test firsts (retain firsts ls) (each-retain Known firsts ls all) (retain-passes firsts ls))
+        first (retain firsts ls) (with-test firsts (retain firsts ls) (each-retain Known firsts ls all) (retain-passes firsts ls))
+
+    his-ascending : Ascending _<_ (map (λ (l : Link). l .hi .0) (retain firsts ls))
+    his-ascending = his-ascend a (retain firsts ls) starts (ascending-retain Before firsts ls (w .ascending))
+
+    -- no more links start at a than there are numbers above it
+    firsts-most : length (retain firsts ls) ≤ length ids
+    firsts-most =
+        subst (λ (k : ℕ). k ≤ length ids) (length-map (retain firsts ls) (λ (l : Link). l .hi .0))
+        (ascending-length ids (map (λ (l : Link). l .hi .0) (retain firsts ls)) (u .1) his-ascending his)
 
     later : (l : Link) → Known l × (others l ≡ true) → In (l .lo .0) ids × In (l .hi .0) ids
     later l g =
@@ -148,18 +179,30 @@ number m = m .id .0
 good-most : (ms : List DbMicro) → Ascending Older ms → (ls : List Link) → LinksHeld ms ls → 2 * length ls + length ms ≤ length ms * length ms
 good-most ms u ls g =
     subst (λ (k : ℕ). 2 * length ls + k ≤ k * k) (length-map ms number)
-    (pairs-most (map number ms) (ascending-map Older _<_ number (λ (a b : DbMicro) (h : Older a b). h) ms u) ls
-    (record { ascending = g .ascending; smaller = g .smallerFirst; ends = each-more (λ (l : Link) (h : Held ms l). (among (l .lo .0) (h .0), among (l .hi .0) (h .1))) ls (g .ends) }))
+    (pairs-most (map number ms) (ascending-map Older _<_ number (λ (a b : DbMicro) (h : Older a b). h) ms u) ls within)
   where
     among : (a : ℕ) → Live ms a → In a (map number ms)
     among a l = subst (λ (b : ℕ). In b (map number ms)) (l .2) (in-map number ms (l .0) (l .1))
 
+    within : Within (map number ms) ls
+    within = record {
+      ascending = g .ascending;
+      smaller = g .smallerFirst;
+      ends = each-more (λ (l : Link) (h : Held ms l). (among (l .lo .0) (h .0), among (l .hi .0) (h .1))) ls (g .ends);
+    }
+
 -- n numbers have at most n × (n − 1) / 2 pairs, and 64 have 2,016
 as-pairs : (n k : ℕ) → 2 * k + n ≤ n * n → 2 * k ≤ n * (n - 1)
-as-pairs n k h = let e : n * (n - 1) ≡ n * n - n * 1 = mul-sub n n 1 in let f : n * 1 ≡ n = mul-one n in omega arith
+as-pairs n k h =
+    let e : n * (n - 1) ≡ n * n - n * 1 = mul-sub n n 1 in
+    let f : n * 1 ≡ n = mul-one n in
+    omega arith
 
 most : (n k : ℕ) → n ≤ 64 → 2 * k ≤ n * (n - 1) → k ≤ 2016
-most n k h l = let g : n - 1 ≤ 63 = omega arith in let e : n * (n - 1) ≤ 64 * 63 = mul-le-mul h g in omega arith
+most n k h l =
+    let g : n - 1 ≤ 63 = omega arith in
+    let e : n * (n - 1) ≤ 64 * 63 = mul-le-mul h g in
+    omega arith
 
 -- ---- room for every gain
 module _ (lambda t : Float) where
@@ -169,8 +212,11 @@ module _ (lambda t : Float) where
   grows k [] = inr refl
   grows k (l ∷ ls) = go (before l k) (sameEnds l k) (grows k ls)
     where
-      go : (a b : Bool) → (gainIn lambda t true k ls ≡ gainIn lambda t false k ls) ⊎ (length (gainIn lambda t true k ls) ≡ suc (length ls))
-          → (cond a (l ∷ gainIn lambda t true k ls) (cond b (gains lambda t l ∷ ls) (gains lambda t k ∷ l ∷ ls)) ≡ cond a (l ∷ gainIn lambda t false k ls) (cond b (gains lambda t l ∷ ls) (l ∷ ls)))
+      go :
+          (a b : Bool) →
+          (gainIn lambda t true k ls ≡ gainIn lambda t false k ls) ⊎ (length (gainIn lambda t true k ls) ≡ suc (length ls)) →
+          (cond a (l ∷ gainIn lambda t true k ls) (cond b (gains lambda t l ∷ ls) (gains lambda t k ∷ l ∷ ls))
+          ≡ cond a (l ∷ gainIn lambda t false k ls) (cond b (gains lambda t l ∷ ls) (l ∷ ls)))
           ⊎ (length (cond a (l ∷ gainIn lambda t true k ls) (cond b (gains lambda t l ∷ ls) (gains lambda t k ∷ l ∷ ls))) ≡ suc (suc (length ls)))
       go true b ih = ⊎-elim (λ e. inl (ap {B = List Link} (λ r. l ∷ r) e)) (λ e. inr (ap suc e)) ih
       go false true ih = inl refl
@@ -180,6 +226,7 @@ module _ (lambda t : Float) where
     links-most : (ls : List Link) → LinksHeld ms ls → length ls ≤ 2016
     links-most ls g = most (length ms) (length ls) few (as-pairs (length ms) (length ls) (good-most ms u ls g))
 
+    -- a gain is the one in a list without bound: a full list has every pair already
     pub gain-room : (ls : List Link) (p : MicroId × MicroId) → LinksHeld ms ls → GoodPair ms p → gainOf lambda t ls p ≡ gainUnbounded lambda t ls p
     gain-room ls p g q = go (hasRoom ls) refl
       where
@@ -192,11 +239,16 @@ module _ (lambda t : Float) where
         go : (b : Bool) → hasRoom ls ≡ b → gainIn lambda t b k ls ≡ gainIn lambda t true k ls
         go true e = refl
         go false e =
-            ⊎-elim (λ s. sym s)
-            (λ s. absurd (let x : linksMost ≤ length ls = ltb-false (length ls) linksMost e in let y : length (gainIn lambda t true k ls) ≤ 2016 = links-most (gainIn lambda t true k ls) more in omega arith))
-            (grows k ls)
+            let full : linksMost ≤ length ls = ltb-false (length ls) linksMost e in
+            let bound : length (gainIn lambda t true k ls) ≤ 2016 = links-most (gainIn lambda t true k ls) more in
+            ⊎-elim (λ s. sym s) (λ s. absurd (omega arith)) (grows k ls)
 
-    pub gains-room : (ps : List (MicroId × MicroId)) (ls : List Link) → Each (GoodPair ms) ps → LinksHeld ms ls → foldl (gainOf lambda t) ls ps ≡ foldl (gainUnbounded lambda t) ls ps
+    -- and so are all the gains of an insert
+    pub gains-room :
+        (ps : List (MicroId × MicroId)) (ls : List Link) →
+        Each (GoodPair ms) ps →
+        LinksHeld ms ls →
+        foldl (gainOf lambda t) ls ps ≡ foldl (gainUnbounded lambda t) ls ps
     gains-room [] ls e g = refl
     gains-room (p ∷ ps) ls e g =
         gains-room ps (gainOf lambda t ls p) (e .1) (one-gain lambda t ms ls p g (e .0))
@@ -223,13 +275,14 @@ few-taken s x e h =
 pub at-most-64 : (p : Settings) (xs : List (List Float)) → length (after p xs .held .micros) ≤ microsMost
 at-most-64 p xs = always dbstream hasPlace (λ (n : ℕ) (s : State). Few (s .held)) (λ n s x c e. few-taken s x e) p (omega arith) xs
 
+-- the claim: all there is fits
 pub fits : (p : Settings) (xs : List (List Float)) → Fits (after p xs)
 fits p xs =
     record {
       micros = few;
       pairs = pairs-are;
       links = most (length (s .held .micros)) (length (s .held .links)) few pairs-are;
-      number = (let a : s .held .next ≤ n = f .nextLimit in let b : n ≤ clockMost = f .clock .limit in omega arith);
+      number = omega (arith, f .nextLimit, f .clock .limit);
       roomForAll = λ x. gains-room (s .params .settings .lambda) (s .t) (joined s x .micros) (joined-ascends s x (f .ascending))
           (omega (arith, few, length-map (s .held .micros) (absorbed (s .params .settings .r) (s .params .settings .lambda) (s .t) x)))
           (pairsOf (map idOf (neighboursOf s x))) (s .held .links) (join x .pairs) (join x .links);

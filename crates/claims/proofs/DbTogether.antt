@@ -19,7 +19,7 @@ use Rattle.model.specs.Body.{fadedWeight}
 use Rattle.model.specs.DbInsert.{fadedLink}
 use Rattle.model.specs.Dbstream.{dbstream, hasPlace, clusterOf}
 use Rattle.claims.specs.Lists.{At, Ascending}
-use Rattle.claims.specs.DbClaims.{Older, Strong, StrongNumber, Step, LabelsTellFamilies, Laxer, StayTogether, after}
+use Rattle.claims.specs.DbClaims.{Older, Strong, StrongNumber, Step, OneFamily, LabelsTellFamilies, Laxer, StayTogether, after}
 use Rattle.claims.proofs.Places.{at-below, at-there}
 use Rattle.claims.proofs.Runs.{run-params}
 use Rattle.claims.proofs.DbFresh.{from-fresh}
@@ -32,7 +32,8 @@ reaches : (low high v : Float) → T (le low high) → le high v ≡ true → le
 reaches low high v h e = is-true (le low v) (le-trans-all low high v h (subst T (sym e) tt))
 
 module _ (alpha minWeight : Float) (labels : List ℤ) (s : State)
-    (lighter : T (le minWeight (s .params .settings .«min_weight»))) (looser : T (le (alpha ⊗ minWeight) (s .params .settings .alpha ⊗ s .params .settings .«min_weight»)))
+    (lighter : T (le minWeight (s .params .settings .«min_weight»)))
+    (looser : T (le (alpha ⊗ minWeight) (s .params .settings .alpha ⊗ s .params .settings .«min_weight»)))
     (asc : Ascending Older (s .held .micros)) (few : length (s .held .micros) ≤ microsMost) where
   abbrev u : State
   u = clusterOf (twin alpha minWeight labels s)
@@ -50,16 +51,19 @@ module _ (alpha minWeight : Float) (labels : List ℤ) (s : State)
         held = t .held;
         lo = t .lo;
         hi = t .hi;
-        dense = reaches (alpha ⊗ minWeight) (s .params .settings .alpha ⊗ s .params .settings .«min_weight») (fadedLink (s .params .settings .lambda) (s .t) (t .link)) looser (t .dense);
+        dense = reaches (alpha ⊗ minWeight) (s .params .settings .alpha ⊗ s .params .settings .«min_weight»)
+            (fadedLink (s .params .settings .lambda) (s .t) (t .link)) looser (t .dense);
         from = number-stays a (t .from);
         to = number-stays b (t .to);
       }
 
+  -- of one stream and its twin with lower bounds
   pub twins-stay : StayTogether (clusterOf s) u
   twins-stay i j w =
       ⊎-elim (λ both. absurd (w .other (one .weak i m (w .label) (hm .1) (w .here) .1 (both .0))))
       (λ both.
-      let e : k ≡ l = two .families i j m n k l (hm .1) (hn .1) (hk .1) (hl .1) .1 (inr (strong-stays m (both .0), strong-stays n (both .1), chain-more step-stays (both .2))) in
+      let family : OneFamily u m n = inr (strong-stays m (both .0), strong-stays n (both .1), chain-more step-stays (both .2)) in
+      let e : k ≡ l = two .families i j m n k l (hm .1) (hn .1) (hk .1) (hl .1) .1 family in
       record {
         label = k;
         here = hk .1;
@@ -101,6 +105,7 @@ module _ (alpha minWeight : Float) (labels : List ℤ) (s : State)
       l : ℤ
       l = hl .0
 
+-- of two streams after the same list
 pub stay-together : (p q : Settings) → Laxer p q → (xs : List (List Float)) → StayTogether (clusterOf (after p xs)) (clusterOf (after q xs))
 stay-together p q laxer xs =
     subst (λ (v : State). StayTogether (clusterOf s) (clusterOf v)) (sym (twins p q laxer xs .stream))

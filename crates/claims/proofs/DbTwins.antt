@@ -44,6 +44,7 @@ module _ (alpha minWeight : Float) where
     pub answers : answersOf insertOf u xs ≡ answersOf insertOf s xs
     pub stream : runOf insertOf u xs ≡ twin labels (runOf insertOf s xs)
 
+  -- insert by insert
   pub twin-run : (xs : List (List Float)) (labels : List ℤ) (s u : State) → u ≡ twin labels s → TwinRun s u xs
   unfolding runOf answersOf
   twin-run [] labels s u e = record { labels = labels; answers = refl; stream = e }
@@ -56,6 +57,7 @@ module _ (p q : Settings) (laxer : Laxer p q) where
   twin-fresh : fresh q ≡ twin (q .alpha) (q .«min_weight») [] (fresh p)
   twin-fresh = sym (ap fresh (laxer .alike))
 
+  -- two fresh streams that are alike but for the thresholds are twins
   pub twins : (xs : List (List Float)) → TwinRun (q .alpha) (q .«min_weight») (fresh p) (fresh q) xs
   twins xs = twin-run (q .alpha) (q .«min_weight») xs [] (fresh p) (fresh q) twin-fresh
 

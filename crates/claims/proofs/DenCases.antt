@@ -18,20 +18,25 @@ pub placed-cases :
     ((b : Near DenMicro) → Tried s x (s .held .potential) b → P (pooled (set (s .held .potential) (b .place) (b .micro)) (s .held .outliers))) →
     ((b : Near DenMicro) → Tried s x (s .held .outliers) b → P (pooled (s .held .potential ++ b .micro ∷ []) (without (b .place) (s .held .outliers)))) →
     ((b : Near DenMicro) → Tried s x (s .held .outliers) b → P (pooled (s .held .potential) (set (s .held .outliers) (b .place) (b .micro)))) →
-    (isAbsorbed s x ≡ false → P (pooled (s .held .potential) (s .held .outliers ++ newborn (s .params .settings .dim) (s .t) x ∷ []))) → P (placed s x)
+    (isAbsorbed s x ≡ false → P (pooled (s .held .potential) (s .held .outliers ++ newborn (s .params .settings .dim) (s .t) x ∷ []))) →
+    P (placed s x)
 unfolding placed
 placed-cases P s x old up stays new =
     go (trialIn s x (s .held .potential)) (trialIn s x (s .held .outliers)) (tried s x (s .held .potential)) (tried s x (s .held .outliers)) new
   where
     grown :
-        (b : Near DenMicro) → Tried s x (s .held .outliers) b → (t : Bool) →
+        (b : Near DenMicro) →
+        Tried s x (s .held .outliers) b →
+        (t : Bool) →
         P (cond t (pooled (s .held .potential ++ b .micro ∷ []) (without (b .place) (s .held .outliers)))
         (pooled (s .held .potential) (set (s .held .outliers) (b .place) (b .micro))))
     grown b f true = up b f
     grown b f false = stays b f
 
     go :
-        (p o : Option (Near DenMicro)) → TriedBy s x (s .held .potential) p → TriedBy s x (s .held .outliers) o →
+        (p o : Option (Near DenMicro)) →
+        TriedBy s x (s .held .potential) p →
+        TriedBy s x (s .held .outliers) o →
         ((isThere p || isThere o) ≡ false → P (pooled (s .held .potential) (s .held .outliers ++ newborn (s .params .settings .dim) (s .t) x ∷ []))) →
         P (placedBy s x p o)
     go (some b) o f g h = old b f

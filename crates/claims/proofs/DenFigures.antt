@@ -59,7 +59,9 @@ module _ (n : ℕ) (s : State) (x : List Float) (c : Counts n (s .t)) (g : Both 
   all-later l e = each-more (λ (m : DenMicro) k. kept-later n (s .params .settings .dim) m (c .limit) k) l e
 
   grown :
-      (l : List DenMicro) (b : Near DenMicro) → Each (Kept n (s .params .settings .dim)) l → Tried s x l b →
+      (l : List DenMicro) (b : Near DenMicro) →
+      Each (Kept n (s .params .settings .dim)) l →
+      Tried s x l b →
       Kept (n + 1) (s .params .settings .dim) (b .micro)
   grown l b e t =
       subst (Kept (n + 1) (s .params .settings .dim)) (sym (t .grown))
@@ -69,12 +71,18 @@ module _ (n : ℕ) (s : State) (x : List Float) (c : Counts n (s .t)) (g : Both 
   both-placed : Both (n + 1) (s .params .settings .dim) (placed s x)
   both-placed =
       placed-cases (Both (n + 1) (s .params .settings .dim)) s x
-      (λ b t. (each-set (Kept (n + 1) (s .params .settings .dim)) (s .held .potential) (b .place) (b .micro) (grown (s .held .potential) b (g .0) t) potential, outliers))
+      (λ b t. (
+        each-set (Kept (n + 1) (s .params .settings .dim)) (s .held .potential) (b .place) (b .micro) (grown (s .held .potential) b (g .0) t) potential,
+        outliers,
+      ))
       (λ b t. (
         each-append (Kept (n + 1) (s .params .settings .dim)) (s .held .potential) (b .micro ∷ []) potential (grown (s .held .outliers) b (g .1) t, tt),
         each-without (Kept (n + 1) (s .params .settings .dim)) (s .held .outliers) (b .place) outliers,
       ))
-      (λ b t. (potential, each-set (Kept (n + 1) (s .params .settings .dim)) (s .held .outliers) (b .place) (b .micro) (grown (s .held .outliers) b (g .1) t) outliers))
+      (λ b t. (
+        potential,
+        each-set (Kept (n + 1) (s .params .settings .dim)) (s .held .outliers) (b .place) (b .micro) (grown (s .held .outliers) b (g .1) t) outliers,
+      ))
       (λ e. (
         potential,
         each-append (Kept (n + 1) (s .params .settings .dim)) (s .held .outliers) (newborn (s .params .settings .dim) (s .t) x ∷ []) outliers

@@ -61,8 +61,7 @@ module _ (s : State) (labelled : s .labels ≡ labelsOf s) (few : length (s .hel
   chains : (i j : ℕ) → Chain (Joined n (joinsOf s)) i j ↔ OneGroup s i j
   chains i j = (
     (λ c. chain-more (λ a b p. listed-step s a b (p .2)) c),
-    (λ c. chain-more (λ a b t. let f : a < b = t .first in
-        let l : b < length (s .held .potential) = t .held in (omega (arith, n-is), omega (arith, n-is), step-listed s a b t)) c),
+    (λ c. chain-more (λ a b t. (omega (arith, n-is, t .first, t .held), omega (arith, n-is, t .held), step-listed s a b t)) c),
   )
 
   -- ---- the weight of a group is the sum at its root
@@ -112,8 +111,10 @@ module _ (s : State) (labelled : s .labels ≡ labelsOf s) (few : length (s .hel
   alike : (i j : ℕ) → i < n → j < n → OneGroup s i j → getD mask i false ≡ getD mask j false
   unfolding sumAt
   alike i j h k c =
-      mask-at i h ∙ ap (λ (v : ℕ). le (s .params .settings .mu) (sumFrom nought v roots ws)) (tells .equal i j (omega (arith, low)) (omega (arith, low)) .1 (chains i j .1 c)) ∙ sym (mask-at j k)
+      let one-root = tells .equal i j (omega (arith, low)) (omega (arith, low)) .1 (chains i j .1 c) in
+      mask-at i h ∙ ap (λ (v : ℕ). le (s .params .settings .mu) (sumFrom nought v roots ws)) one-root ∙ sym (mask-at j k)
 
+  -- the claim, of a stream labelled so
   pub labels-tell : LabelsTellGroups s
   labels-tell =
       record {
@@ -128,7 +129,9 @@ module _ (s : State) (labelled : s .labels ≡ labelsOf s) (few : length (s .hel
             let c = counts i v (inside i h) w in
             let d = counts j u (inside j k) x in (
               (λ e. ⊎-elim (λ y. inl (sym c ∙ y .0, sym d ∙ y .1)) (λ y. inr (chains i j .0 (y .2))) (q .0 e)),
-              (λ e. q .1 (⊎-elim (λ y. inl (c ∙ y .0, d ∙ y .1)) (λ g. both i j (getD mask i false) refl (alike i j (inside i h) (inside j k) g) (chains i j .1 g)) e)),
+              (λ e. q .1
+                  (⊎-elim (λ y. inl (c ∙ y .0, d ∙ y .1))
+                  (λ g. both i j (getD mask i false) refl (alike i j (inside i h) (inside j k) g) (chains i j .1 g)) e)),
             );
         counts = λ i h. subst (λ (l : List ℤ). Counted (laws.labelAt l i)) (sym labels-are) (labels-counted mask roots i);
         fromZero = λ i c m h e l. tell .fromZero i c m (inside i h) e l;
@@ -138,11 +141,15 @@ module _ (s : State) (labelled : s .labels ≡ labelsOf s) (few : length (s .hel
       inside i h = omega (arith, n-is)
 
       both :
-          (i j : ℕ) (t : Bool) → getD mask i false ≡ t → getD mask i false ≡ getD mask j false → Chain (Joined n (joinsOf s)) i j →
+          (i j : ℕ) (t : Bool) →
+          getD mask i false ≡ t →
+          getD mask i false ≡ getD mask j false →
+          Chain (Joined n (joinsOf s)) i j →
           (laws.Outside mask i × laws.Outside mask j) ⊎ (laws.Inside mask i × laws.Inside mask j × Chain (Joined n (joinsOf s)) i j)
       both i j true e h c = inr (e, sym h ∙ e, c)
       both i j false e h c = inl (e, sym h ∙ e)
 
+-- and so of a clustered one
 pub groups-told : (s : State) → length (s .held .potential) ≤ microsMost → LabelsTellGroups (clusterOf s)
 unfolding labelsOf
 groups-told s few = labels-tell (clusterOf s) refl few

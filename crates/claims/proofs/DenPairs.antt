@@ -30,7 +30,8 @@ still false p r a b h = h
 
 -- a row, both ways
 row-to :
-    (e : Float) (i : ℕ) (m : List Float) (j : ℕ) (ks : List DenMicro) (a b : ℕ) → Listed (rowFrom e i m j ks) a b →
+    (e : Float) (i : ℕ) (m : List Float) (j : ℕ) (ks : List DenMicro) (a b : ℕ) →
+    Listed (rowFrom e i m j ks) a b →
     (q : ℕ) × (q < length ks) × (a ≡ i) × (b ≡ j + q) × Close e m (meanAt ks q)
 unfolding rowFrom
 row-to e i m j [] a b h = absurd h
@@ -38,11 +39,22 @@ row-to e i m j (k ∷ ks) a b h =
     either (close e m (k .body .cf .mean)) ((i, j) ∷ rowFrom e i m (j + 1) ks) (rowFrom e i m (j + 1) ks) a b h
     (λ t.
     ⊎-elim (λ w. let v : b ≡ j = w .1 in (0, omega arith, w .0, omega arith, t))
-    (λ r. let w = row-to e i m (j + 1) ks a b r in let l : w .0 < length ks = w .1 in let v : b ≡ j + 1 + w .0 = w .3 in (suc (w .0), omega arith, w .2, omega arith, w .4)))
-    (λ r. let w = row-to e i m (j + 1) ks a b r in let l : w .0 < length ks = w .1 in let v : b ≡ j + 1 + w .0 = w .3 in (suc (w .0), omega arith, w .2, omega arith, w .4))
+    (λ r. further (row-to e i m (j + 1) ks a b r)))
+    (λ r. further (row-to e i m (j + 1) ks a b r))
+  where
+    -- what the rest of the row tells, one place further on
+    further :
+        (q : ℕ) × (q < length ks) × (a ≡ i) × (b ≡ j + 1 + q) × Close e m (meanAt ks q) →
+        (q : ℕ) × (q < length (k ∷ ks)) × (a ≡ i) × (b ≡ j + q) × Close e m (meanAt (k ∷ ks) q)
+    further w =
+        let l : w .0 < length ks = w .1 in
+        let v : b ≡ j + 1 + w .0 = w .3 in
+        (suc (w .0), omega arith, w .2, omega arith, w .4)
 
 row-from :
-    (e : Float) (i : ℕ) (m : List Float) (j : ℕ) (ks : List DenMicro) (q : ℕ) → q < length ks → Close e m (meanAt ks q) →
+    (e : Float) (i : ℕ) (m : List Float) (j : ℕ) (ks : List DenMicro) (q : ℕ) →
+    q < length ks →
+    Close e m (meanAt ks q) →
     Listed (rowFrom e i m j ks) i (j + q)
 unfolding rowFrom
 row-from e i m j [] q h t = absurd (omega arith)
@@ -67,7 +79,8 @@ on-right (p ∷ x) y a b h = inr (on-right x y a b h)
 
 -- all pairs, both ways
 pairs-to :
-    (e : Float) (i : ℕ) (ms : List DenMicro) (a b : ℕ) → Listed (pairsFrom e i ms) a b →
+    (e : Float) (i : ℕ) (ms : List DenMicro) (a b : ℕ) →
+    Listed (pairsFrom e i ms) a b →
     (p q : ℕ) × (p < q) × (q < length ms) × (a ≡ i + p) × (b ≡ i + q) × Close e (meanAt ms p) (meanAt ms q)
 unfolding pairsFrom
 pairs-to e i [] a b h = absurd h
@@ -89,7 +102,10 @@ pairs-to e i (m ∷ ms) a b h =
     (split (rowFrom e i (m .body .cf .mean) (i + 1) ms) (pairsFrom e (i + 1) ms) a b h)
 
 pairs-from :
-    (e : Float) (i : ℕ) (ms : List DenMicro) (p q : ℕ) → p < q → q < length ms → Close e (meanAt ms p) (meanAt ms q) →
+    (e : Float) (i : ℕ) (ms : List DenMicro) (p q : ℕ) →
+    p < q →
+    q < length ms →
+    Close e (meanAt ms p) (meanAt ms q) →
     Listed (pairsFrom e i ms) (i + p) (i + q)
 unfolding pairsFrom
 pairs-from e i [] p q f h t = absurd (omega arith)
@@ -98,8 +114,10 @@ pairs-from e i (m ∷ ms) zero (suc q) f h t =
     let u : i ≡ i + 0 = omega arith in
     let v : i + 1 + q ≡ i + suc q = omega arith in
     let r : Listed (rowFrom e i (m .body .cf .mean) (i + 1) ms) i (i + 1 + q) = row-from e i (m .body .cf .mean) (i + 1) ms q (omega arith) t in
+    let here : Listed (rowFrom e i (m .body .cf .mean) (i + 1) ms) i (i + suc q) =
+    subst (λ (b : ℕ). Listed (rowFrom e i (m .body .cf .mean) (i + 1) ms) i b) v r in
     on-left (rowFrom e i (m .body .cf .mean) (i + 1) ms) (pairsFrom e (i + 1) ms) (i + 0) (i + suc q)
-    (subst (λ (a : ℕ). Listed (rowFrom e i (m .body .cf .mean) (i + 1) ms) a (i + suc q)) u (subst (λ (b : ℕ). Listed (rowFrom e i (m .body .cf .mean) (i + 1) ms) i b) v r))
+    (subst (λ (a : ℕ). Listed (rowFrom e i (m .body .cf .mean) (i + 1) ms) a (i + suc q)) u here)
 pairs-from e i (m ∷ ms) (suc p) (suc q) f h t =
     let u : i + 1 + p ≡ i + suc p = omega arith in
     let v : i + 1 + q ≡ i + suc q = omega arith in
@@ -107,6 +125,7 @@ pairs-from e i (m ∷ ms) (suc p) (suc q) f h t =
     on-right (rowFrom e i (m .body .cf .mean) (i + 1) ms) (pairsFrom e (i + 1) ms) (i + suc p) (i + suc q)
     (subst (λ (a : ℕ). Listed (pairsFrom e (i + 1) ms) a (i + suc q)) u (subst (λ (b : ℕ). Listed (pairsFrom e (i + 1) ms) (i + 1 + p) b) v r))
 
+-- a joined pair is a step of a chain
 pub listed-step : (s : State) (i j : ℕ) → Listed (joinsOf s) i j → Step s i j
 listed-step s i j h =
     let w = pairs-to (s .params .eps2) 0 (s .held .potential) i j h in
@@ -114,12 +133,15 @@ listed-step s i j h =
     let l : w .1 < length (s .held .potential) = w .3 in
     let u : i ≡ w .0 = omega (arith, w .4) in
     let v : j ≡ w .1 = omega (arith, w .5) in
+    let to-j : Close (s .params .eps2) (centre s (w .0)) (centre s j) =
+    subst (λ (b : ℕ). Close (s .params .eps2) (centre s (w .0)) (centre s b)) (sym v) (w .6) in
     record {
       first = omega arith;
       held = omega arith;
-      near = subst (λ (a : ℕ). Close (s .params .eps2) (centre s a) (centre s j)) (sym u) (subst (λ (b : ℕ). Close (s .params .eps2) (centre s (w .0)) (centre s b)) (sym v) (w .6));
+      near = subst (λ (a : ℕ). Close (s .params .eps2) (centre s a) (centre s j)) (sym u) to-j;
     }
 
+-- and a step is a joined pair
 pub step-listed : (s : State) (i j : ℕ) → Step s i j → Listed (joinsOf s) i j
 step-listed s i j h =
     let u : 0 + i ≡ i = omega arith in

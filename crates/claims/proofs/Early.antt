@@ -26,7 +26,8 @@ takenBy m = m .window .taken
 one-value : (w : Window) (x : Float) → updateOf w x .window .taken ≤ w .taken + 1
 unfolding grown shrunk
 one-value w x =
-    update-cases w x (λ (o : Outcome) (l : List Classed). o .window .taken ≤ w .taken + 1) (λ e. omega arith) (λ e r. omega arith) (λ e r i. omega arith) (λ e r i. omega arith)
+    update-cases w x (λ (o : Outcome) (l : List Classed). o .window .taken ≤ w .taken + 1)
+    (λ e. omega arith) (λ e r. omega arith) (λ e r i. omega arith) (λ e r i. omega arith)
 
 one-seen : (m : Monitor) (d : Nearest) (t : Float) → takenBy (observeOf m d t) ≤ takenBy m + 1
 one-seen m Nothing t = omega arith

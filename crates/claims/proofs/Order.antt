@@ -9,6 +9,7 @@ use Rattle.lists.specs.Retain.{retain, without}
 use Rattle.model.specs.Any.{any}
 use Rattle.claims.specs.Lists.{In, Each, Ascending}
 
+-- three tests that pass together pass each
 pub and-true : (a b c : Bool) → (a && b && c) ≡ true → (a ≡ true) × (b ≡ true) × (c ≡ true)
 and-true true true true e = (refl, refl, refl)
 and-true true true false e = absurd (true≢false (sym e))
@@ -16,6 +17,7 @@ and-true true false c e = absurd (true≢false (sym e))
 and-true false b c e = absurd (true≢false (sym e))
 
 module _ {A : Type 0} where
+  -- what follows from P holds wherever P does
   pub each-more : {P Q : A → Type 0} → ((a : A) → P a → Q a) → (l : List A) → Each P l → Each Q l
   each-more f [] e = tt
   each-more f (a ∷ l) e = (f a (e .0), each-more f l (e .1))
@@ -105,7 +107,12 @@ pub each-map : {A B : Type 0} (P : A → Type 0) (Q : B → Type 0) (f : A → B
 each-map P Q f h [] e = tt
 each-map P Q f h (a ∷ l) e = (h a (e .0), each-map P Q f h l (e .1))
 
-pub ascending-map : {A B : Type 0} (R : A → A → Type 0) (S : B → B → Type 0) (f : A → B) → ((a b : A) → R a b → S (f a) (f b)) → (l : List A) → Ascending R l → Ascending S (map f l)
+pub ascending-map :
+    {A B : Type 0} (R : A → A → Type 0) (S : B → B → Type 0) (f : A → B) →
+    ((a b : A) → R a b → S (f a) (f b)) →
+    (l : List A) →
+    Ascending R l →
+    Ascending S (map f l)
 ascending-map R S f h [] e = tt
 ascending-map R S f h (a ∷ l) e = (each-map (R a) (S (f a)) f (h a) l (e .0), ascending-map R S f h l (e .1))
 

@@ -34,18 +34,25 @@ den-yes p e =
     let r = opens-yes denstream p (refl, (refl, (refl, (refl, (refl, (refl, tt)))))) (ap isOpen e) in
     (r .1 .1 .0, r .1 .1 .1 .1 .1 .0)
 
+-- t_gap of an accepted DBSTREAM
 pub gap-whole : (p : db.Settings) → asked dbstream p ≡ Open → Period (2 ^ 32) (db.paramsOf p .«t_gap»)
 gap-whole p e = t-gap-whole (p .lambda) (db-lambda p e)
 
+-- tp of an accepted DenStream
 pub prune-whole : (p : den.Settings) → asked denstream p ≡ Open → Period (2 ^ 38) (den.paramsOf p .tp)
 prune-whole p e = tp-whole (p .lambda) (p .beta) (p .mu) (den-yes p e .0) (den-yes p e .1)
 
+-- and what outliers need divides by no 0
 pub divides : (p : den.Settings) → asked denstream p ≡ Open → eq (twoTo (neg (p .lambda) ⊗ den.paramsOf p .tp) ⊖ one) nought ≡ false
 divides p e = divisor-some (p .lambda) (p .beta) (p .mu) (den-yes p e .0) (den-yes p e .1)
 
 -- of either stream
 pub due-is :
-    {b : ℕ} {period : Float} → b ≤ 2 ^ 53 → Period b period → (n : ℕ) (t : Float) → Counts n t →
+    {b : ℕ} {period : Float} →
+    b ≤ 2 ^ 53 →
+    Period b period →
+    (n : ℕ) (t : Float) →
+    Counts n t →
     isMultiple t period ≡ eq (rem binary64 t period) nought
 due-is {b} {period} B g n t c =
     let h : n ≤ clockMost = c .limit in

@@ -9,11 +9,13 @@ use native.Mathlib.Omega.{arith}
 use lib.ListN.{length, getD}
 use Rattle.claims.specs.Lists.{At, In, Each}
 
+-- nothing is not something
 pub not-none {ℓ} : {A : Type ℓ} {a : A} → none ≡ some a → ⊥
 not-none e = let z : _≡_ {A = ℕ} 0 1 = cc in omega arith
 
 -- ---- At and In
 module _ {A : Type 0} where
+  -- one place holds one element
   pub at-one : (l : List A) (i : ℕ) (a b : A) → At l i a → At l i b → a ≡ b
   at-one l i a b h k = let e : some a ≡ some b = sym h ∙ k in cc
 
@@ -46,11 +48,13 @@ module _ {A : Type 0} where
   each-in P (b ∷ l) a e h = ⊎-elim (λ q. subst P (sym q) (e .0)) (λ k. each-in P l a (e .1) k) h
 
 -- ---- a test of each
+-- where the test passes, one stands that passes it
 pub test-there : {A : Type 0} (f : A → Bool) (l : List A) (i : ℕ) → getD (map f l) i false ≡ true → (a : A) × At l i a × (f a ≡ true)
 test-there f [] i e = absurd (true≢false (sym e))
 test-there f (a ∷ l) zero e = (a, refl, e)
 test-there f (a ∷ l) (suc i) e = test-there f l i e
 
+-- and the test of a place is that of the one there
 pub there-test : {A : Type 0} (f : A → Bool) (l : List A) (i : ℕ) (a : A) → At l i a → getD (map f l) i false ≡ f a
 there-test f [] i a h = absurd (not-none h)
 there-test f (b ∷ l) zero a h = ap f (let e : some b ≡ some a = h in cc)

@@ -21,8 +21,10 @@ use Rattle.claims.specs.History.{seenIf, seenFrom}
 use Rattle.claims.specs.Whole.{Opens, after, told, seen}
 use Rattle.claims.proofs.Clocks.{one-tick, starts}
 
+-- a list of inserts, then another
 pub run-append :
-    {S : Type 0} (insert : S → List Float → Outcome S) (xs ys : List (List Float)) (s : S) → runOf insert s (xs ++ ys) ≡ runOf insert (runOf insert s xs) ys
+    {S : Type 0} (insert : S → List Float → Outcome S) (xs ys : List (List Float)) (s : S) →
+    runOf insert s (xs ++ ys) ≡ runOf insert (runOf insert s xs) ys
 unfolding runOf
 run-append insert [] ys s = refl
 run-append insert (x ∷ xs) ys s = run-append insert xs ys (insert s x .stream)
@@ -35,7 +37,9 @@ uncounted a h = ap (λ (b : Bool). cond b 1 0) h
 module _ {S P H : Type 0} (k : Kind S P H) (place : State P H → List Float → Bool) where
   -- ---- the clock counts
   clock-insert :
-      (n : ℕ) (s : State P H) (x : List Float) → Counts n (s .t) → Counts (n + oneIfDone (insertBy k place s x .answer)) (insertBy k place s x .stream .t)
+      (n : ℕ) (s : State P H) (x : List Float) →
+      Counts n (s .t) →
+      Counts (n + oneIfDone (insertBy k place s x .answer)) (insertBy k place s x .stream .t)
   unfolding tickOf
   clock-insert n s x c =
       insert-cases k place s x (λ (r : Outcome (State P H)). Counts (n + oneIfDone (r .answer)) (r .stream .t))
@@ -45,13 +49,19 @@ module _ {S P H : Type 0} (k : Kind S P H) (place : State P H → List Float →
   module _ (I : ℕ → State P H → Type 0)
       (keeps : (n : ℕ) (s : State P H) (x : List Float) → Counts n (s .t) → place s x ≡ true → I n s → I (n + 1) (takenOf k s x)) where
     one-keeps :
-        (n : ℕ) (s : State P H) (x : List Float) → Counts n (s .t) → I n s → I (n + oneIfDone (insertBy k place s x .answer)) (insertBy k place s x .stream)
+        (n : ℕ) (s : State P H) (x : List Float) →
+        Counts n (s .t) →
+        I n s →
+        I (n + oneIfDone (insertBy k place s x .answer)) (insertBy k place s x .stream)
     one-keeps n s x c i =
         insert-cases k place s x (λ (r : Outcome (State P H)). I (n + oneIfDone (r .answer)) (r .stream))
         (λ a h. subst (λ (j : ℕ). I j s) (omega (arith, uncounted a h)) i) (λ l e. keeps n s x c e i)
 
+    -- through a list of inserts, from n accepted on
     pub run-keeps :
-        (xs : List (List Float)) (n : ℕ) (s : State P H) → Counts n (s .t) → I n s →
+        (xs : List (List Float)) (n : ℕ) (s : State P H) →
+        Counts n (s .t) →
+        I n s →
         let m = n + acceptedIn (answersOf (insertBy k place) s xs) in Counts m (runOf (insertBy k place) s xs .t) × I m (runOf (insertBy k place) s xs)
     unfolding runOf answersOf
     run-keeps [] n s c i = let e : n ≡ n + 0 = omega arith in (subst (λ (j : ℕ). Counts j (s .t)) e c, subst (λ (j : ℕ). I j s) e i)
@@ -62,6 +72,7 @@ module _ {S P H : Type 0} (k : Kind S P H) (place : State P H → List Float →
         let e : (n + a) + j ≡ n + (a + j) = omega arith in
         subst (λ (m : ℕ). Counts m (u .t) × I m u) e (run-keeps xs (n + a) (insertBy k place s x .stream) (clock-insert n s x c) (one-keeps n s x c i))
 
+    -- from a fresh stream
     pub always : (p : S) → I 0 (fresh k p) → (xs : List (List Float)) → I (acceptedIn (told k place p xs)) (after k place p xs)
     always p i xs = subst (λ (j : ℕ). I j (after k place p xs)) (omega arith) (run-keeps xs 0 (fresh k p) starts i .1)
 
@@ -77,7 +88,9 @@ module _ {S P H : Type 0} (k : Kind S P H) (place : State P H → List Float →
 
   -- ---- the drift monitor is the fresh one after the observations of the run
   watched :
-      (n : ℕ) (s : State P H) (x : List Float) → Counts n (s .t) → (l : List Seen) →
+      (n : ℕ) (s : State P H) (x : List Float) →
+      Counts n (s .t) →
+      (l : List Seen) →
       watchOf (insertBy k place s x .stream .drift) l
       ≡ watchOf (s .drift) (seenIf (insertBy k place s x .answer) (record { nearest = k .nearestFor s x; tick = whole n }) l)
   unfolding watchOf tickOf
@@ -89,7 +102,8 @@ module _ {S P H : Type 0} (k : Kind S P H) (place : State P H → List Float →
       (λ q e. ap (λ (t : Float). watchOf (observeOf (s .drift) (k .nearestFor s x) t) l) (c .exact))
 
   watches :
-      (xs : List (List Float)) (n : ℕ) (s : State P H) → Counts n (s .t) →
+      (xs : List (List Float)) (n : ℕ) (s : State P H) →
+      Counts n (s .t) →
       runOf (insertBy k place) s xs .drift ≡ watchOf (s .drift) (seenFrom (insertBy k place) (k .nearestFor) n s xs)
   unfolding runOf seenFrom watchOf
   watches [] n s c = refl
@@ -100,6 +114,7 @@ module _ {S P H : Type 0} (k : Kind S P H) (place : State P H → List Float →
   pub drift-told : (p : S) (xs : List (List Float)) → after k place p xs .drift ≡ watchOf (newOf (k .radius p)) (seen k place p xs)
   drift-told p xs = watches xs 0 (fresh k p) starts
 
+  -- so its report is told from them
   pub drift-heard : (p : S) (xs : List (List Float)) → Heard (k .radius p) (seen k place p xs) (after k place p xs .drift)
   drift-heard p xs = subst (Heard (k .radius p) (seen k place p xs)) (sym (drift-told p xs)) (heard-from-history (k .radius p) (seen k place p xs))
 

@@ -11,6 +11,7 @@ use Rattle.model.specs.Limits.{microsMost}
 use Rattle.model.specs.Periods.{Period}
 use Rattle.model.specs.Stream.{State, Kind, fresh}
 use Rattle.model.specs.Laws.Stream.{refused-nothing}
+use Rattle.model.specs.DenState.{Settings}
 use Rattle.model.specs.Dbstream as db
 use Rattle.model.specs.Denstream as den
 use Rattle.claims.specs.Whole.{OneRun, Calls}
@@ -37,8 +38,13 @@ module _ {S P H : Type 0} (k : Kind S P H) (place : State P H → List Float →
 
   -- which has nothing near where it is fresh, and whose period is whole
   one-run :
-      ((p : S) (x : List Float) → k .nearestFor (fresh k p) x ≡ Nothing) → {b : ℕ} → b ≤ 2 ^ 53 → (p : S) → Period b (k .period (k .paramsOf p)) →
-      (xs : List (List Float)) → OneRun k place p xs
+      ((p : S) (x : List Float) → k .nearestFor (fresh k p) x ≡ Nothing) →
+      {b : ℕ} →
+      b ≤ 2 ^ 53 →
+      (p : S) →
+      Period b (k .period (k .paramsOf p)) →
+      (xs : List (List Float)) →
+      OneRun k place p xs
   one-run none {b} B p whole xs =
       record {
         params = run-params k place p xs;
@@ -48,6 +54,7 @@ module _ {S P H : Type 0} (k : Kind S P H) (place : State P H → List Float →
         window = window-takes k place none p xs;
       }
 
+-- document 01, "A whole run", of DBSTREAM
 pub dbstream : db-claim.Demand3
 dbstream =
     record {
@@ -68,6 +75,14 @@ dbstream =
       calls = calls db.dbstream db.hasPlace;
     }
 
+-- the potential ones alone are as few as both pools together
+potential-few : (p : Settings) (xs : List (List Float)) → length (den-claim.after p xs .held .potential) ≤ microsMost
+potential-few p xs =
+    let h : length (den-claim.after p xs .held .potential) + length (den-claim.after p xs .held .outliers) ≤ microsMost =
+    den-fresh.from-fresh p xs .places in
+    omega arith
+
+-- document 01, "A whole run", of DenStream
 pub denstream : den-claim.Demand3
 denstream =
     record {
@@ -75,9 +90,7 @@ denstream =
         run = one-run den.denstream den.hasPlace den-fresh.none-near (omega arith) p (prune-whole p opens) xs;
         period = prune-whole p opens;
         divisor = divides p opens;
-        labels = groups-told (den-claim.after p xs)
-            (let h : length (den-claim.after p xs .held .potential) + length (den-claim.after p xs .held .outliers) ≤ microsMost =
-            den-fresh.from-fresh p xs .places in omega arith);
+        labels = groups-told (den-claim.after p xs) (potential-few p xs);
         holdings = den-fresh.from-fresh p xs;
         figures = den-figures.figures p xs;
       };

@@ -18,6 +18,7 @@ use Rattle.float.specs.Laws.Opened.{mul-fin}
 use Rattle.float.specs.Laws.Whole.{whole-is, mul-is}
 use Rattle.float.specs.Laws.Ordered.{Finite, is-fin, le→parts, le-trans-all, mul-mono, zero-round, zero-le-zero}
 
+-- what lies between finite doubles is finite
 pub finite-between : (x w y : Float) → Finite x → Finite y → T (le x w) → T (le w y) → Finite w
 unfolding le
 finite-between x nan y a b h k = absurd k
@@ -35,6 +36,7 @@ mul-comm-fin : (f : Format) {x y : Float} → Finite x → Finite y → mul f x 
 mul-comm-fin f (is-fin s m e) (is-fin t n d) =
     mul-fin f s m e t n d ∙ rw (unlike-comm s t, mul-comm (m * up e) (n * up d), mul-comm (down e) (down d)) (sym (mul-fin f t n d s m e))
 
+-- and so is a whole number that a double holds
 pub whole-finite : (n : ℕ) → n ≤ 2 ^ 53 → Finite (whole n)
 whole-finite n h = view (whole n) (whole-is n h)
   where
@@ -48,11 +50,17 @@ zero-times : (g : Float) → Finite g → T (le nought (nought ⊗ g))
 unfolding ofBits
 zero-times g (is-fin t n d) =
     let z : 0 * 1 * (n * up d) ≡ 0 = omega arith in
-    rw (mul-fin binary64 false 0 (pos 0) t n d, z, zero-round binary64 (unlike false t) (1 * down d) (omega (arith, down-pos d))) (zero-le-zero false (unlike false t))
+    let rounded = zero-round binary64 (unlike false t) (1 * down d) (omega (arith, down-pos d)) in
+    rw (mul-fin binary64 false 0 (pos 0) t n d, z, rounded) (zero-le-zero false (unlike false t))
 
 -- 0 ≤ w × g ≤ n for 0 ≤ w ≤ n and 0 ≤ g ≤ 1
 pub faded :
-    (w g : Float) (n : ℕ) → n ≤ 2 ^ 53 → T (le nought w) → T (le w (whole n)) → T (le nought g) → T (le g one) →
+    (w g : Float) (n : ℕ) →
+    n ≤ 2 ^ 53 →
+    T (le nought w) →
+    T (le w (whole n)) →
+    T (le nought g) →
+    T (le g one) →
     T (le nought (w ⊗ g)) × T (le (w ⊗ g) (whole n))
 unfolding ofBits
 faded w g n N a b c d =
@@ -84,11 +92,14 @@ unfolding fits
 same-value f s m (pos k) t =
     let p = parts (eqb (suc m % 2) 1) (ltb (suc m) (2 ^ prec f)) (leb 1 (2 ^ low f)) (ltb (suc m * 2 ^ k) (2 ^ suc (emax f) * 1)) t in
     let few : suc m < 2 ^ prec f = ltb→lt (suc m) (2 ^ prec f) (p .0) in
-    let fine : suc m * 2 ^ k < 2 ^ suc (emax f) = subst (λ (x : ℕ). suc m * 2 ^ k < x) (mul-one (2 ^ suc (emax f))) (ltb→lt (suc m * 2 ^ k) (2 ^ suc (emax f) * 1) (p .2)) in
-    let e : suc m * 2 ^ k * 2 ^ low f ≡ suc m * 2 ^ (k + low f) = mul-assoc (suc m) (2 ^ k) (2 ^ low f) ∙ ap (λ (x : ℕ). suc m * x) (sym (pow-add 2 k (low f))) in
+    let bound : suc m * 2 ^ k < 2 ^ suc (emax f) * 1 = ltb→lt (suc m * 2 ^ k) (2 ^ suc (emax f) * 1) (p .2) in
+    let fine : suc m * 2 ^ k < 2 ^ suc (emax f) = subst (λ (x : ℕ). suc m * 2 ^ k < x) (mul-one (2 ^ suc (emax f))) bound in
+    let shifted : suc m * 2 ^ k * 2 ^ low f < 2 ^ (low f + suc (emax f)) =
+    subst (λ (x : ℕ). suc m * 2 ^ k * 2 ^ low f < 2 ^ x) (add-comm (suc (emax f)) (low f)) (shl-lt (suc (emax f)) (low f) fine) in
+    let e : suc m * 2 ^ k * 2 ^ low f ≡ suc m * 2 ^ (k + low f) =
+    mul-assoc (suc m) (2 ^ k) (2 ^ low f) ∙ ap (λ (x : ℕ). suc m * x) (sym (pow-add 2 k (low f))) in
     round-exact f s (suc m * 2 ^ k) 1 (suc m) (k + low f) (omega arith) few
-    (subst (λ (x : ℕ). x < 2 ^ (low f + suc (emax f))) e (subst (λ (x : ℕ). suc m * 2 ^ k * 2 ^ low f < 2 ^ x) (add-comm (suc (emax f)) (low f)) (shl-lt (suc (emax f)) (low f) fine)))
-    (e ∙ sym (mul-one (suc m * 2 ^ (k + low f))))
+    (subst (λ (x : ℕ). x < 2 ^ (low f + suc (emax f))) e shifted) (e ∙ sym (mul-one (suc m * 2 ^ (k + low f))))
 same-value f s m (negsuc k) t =
     let p = parts (eqb (suc m % 2) 1) (ltb (suc m) (2 ^ prec f)) (leb (2 ^ suc k) (2 ^ low f)) (ltb (suc m * 1) (2 ^ suc (emax f) * 2 ^ suc k)) t in
     let few : suc m < 2 ^ prec f = ltb→lt (suc m) (2 ^ prec f) (p .0) in
@@ -96,11 +107,13 @@ same-value f s m (negsuc k) t =
     let fine : suc m * 1 < 2 ^ suc (emax f) * 2 ^ suc k = ltb→lt (suc m * 1) (2 ^ suc (emax f) * 2 ^ suc k) (p .2) in
     let j : ℕ = low f - suc k in
     let b : j + suc k ≡ low f = omega arith in
-    let g : suc m < 2 ^ (suc (emax f) + suc k) = subst (λ (x : ℕ). x < 2 ^ (suc (emax f) + suc k)) (mul-one (suc m)) (subst (λ (x : ℕ). suc m * 1 < x) (sym (pow-add 2 (suc (emax f)) (suc k))) fine) in
+    let wide : suc m * 1 < 2 ^ (suc (emax f) + suc k) = subst (λ (x : ℕ). suc m * 1 < x) (sym (pow-add 2 (suc (emax f)) (suc k))) fine in
+    let g : suc m < 2 ^ (suc (emax f) + suc k) = subst (λ (x : ℕ). x < 2 ^ (suc (emax f) + suc k)) (mul-one (suc m)) wide in
     let q : (suc (emax f) + suc k) + j ≡ low f + suc (emax f) = omega arith in
     round-exact f s (suc m * 1) (2 ^ suc k) (suc m) j (pow-pos (suc k)) few
     (subst (λ (x : ℕ). suc m * 2 ^ j < 2 ^ x) q (shl-lt (suc (emax f) + suc k) j g))
-    (ap (λ (x : ℕ). x * 2 ^ low f) (mul-one (suc m)) ∙ ap (λ (x : ℕ). suc m * 2 ^ x) (sym b) ∙ ap (λ (x : ℕ). suc m * x) (pow-add 2 j (suc k)) ∙ sym (mul-assoc (suc m) (2 ^ j) (2 ^ suc k)))
+    (ap (λ (x : ℕ). x * 2 ^ low f) (mul-one (suc m)) ∙ ap (λ (x : ℕ). suc m * 2 ^ x) (sym b)
+    ∙ ap (λ (x : ℕ). suc m * x) (pow-add 2 j (suc k)) ∙ sym (mul-assoc (suc m) (2 ^ j) (2 ^ suc k)))
 
 times-one : (w : Float) → T (fits binary64 w) → Finite w → T (le one w) → T (le (w ⊗ one) w)
 unfolding ofBits fits
@@ -109,7 +122,8 @@ times-one (fin false zero e) f (is-fin s n d) a = absurd (let h = le→parts fal
 times-one (fin false (suc m) e) f (is-fin s n d) a =
     let v : HasValue (fin false (suc m) e ⊗ one) false (suc m * up e) (down e) =
     rw (mul-fin binary64 false (suc m) e false 1 (pos 0), mul-one (suc m * up e), mul-one (down e)) (same-value binary64 false m e f) in
-    le-of-values (fin false (suc m) e ⊗ one) (fin false (suc m) e) (suc m * up e) (down e) (suc m * up e) (down e) (down-pos e) (down-pos e) v (refl, refl) (omega arith)
+    le-of-values (fin false (suc m) e ⊗ one) (fin false (suc m) e) (suc m * up e) (down e) (suc m * up e) (down e) (down-pos e) (down-pos e)
+    v (refl, refl) (omega arith)
 
 -- w × g ≤ w for 1 ≤ w and 0 ≤ g ≤ 1
 pub at-most-stored :

@@ -22,6 +22,7 @@ use Rattle.claims.proofs.Weight.{finite-between, whole-finite, faded, a
 whole-le : (n k : ℕ) → n ≤ k → k ≤ 2 ^ 53 → T (le (whole n) (whole k))
 whole-le n k h l = subst T (sym (le-is (whole n) (whole k) n k (whole-is n (omega arith)) (whole-is k l))) (le→leb n k h)
 
+-- a weight that nothing joins stays in its bounds
 pub later : (n : ℕ) (w last : Float) → n ≤ clockMost → Weighed n w last → Weighed (n + 1) w last
 later n w last h g =
     record {
@@ -68,14 +69,17 @@ regains n w last lambda t c a b =
     let f = faded w (fadeOf lambda t last) n (omega (arith, small n (c .limit))) a b (s .least) (s .most) in
     gains-one n (fadedTo lambda t w last) t c (f .0) (f .1)
 
+-- what is at least 1 is at least 0
 pub above-0 : (w : Float) → T (le one w) → T (le nought w)
 unfolding ofBits
 above-0 w h = let z : T (le nought one) = unfold le in tt in le-trans-all nought one w z h
 
+-- 0 is at most any count
 pub zero-most : (n : ℕ) → n ≤ clockMost → T (le nought (whole n))
 unfolding ofBits ofInt
 zero-most n h = whole-le 0 n (omega arith) (omega (arith, small n h))
 
+-- and at least itself
 pub zero-least : T (le nought nought)
 unfolding ofBits le
 zero-least = tt

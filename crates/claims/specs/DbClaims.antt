@@ -27,6 +27,7 @@ use Rattle.claims.specs.Weighed.{Weighed, KeptBody}
 use Rattle.claims.specs.Whole as whole
 
 -- ---- labels
+-- "strong means faded weight ≥ min_weight"
 abbrev pub Strong : State → DbMicro → Type 0
 Strong s m = isStrong s m ≡ true
 
@@ -63,7 +64,11 @@ pub record LabelsTellFamilies (s : State) : Type 0 where
   pub weak : (i : ℕ) (m : DbMicro) (k : ℤ) → At (s .held .micros) i m → At (s .labels) i k → (k ≡ negsuc 0) ↔ Weak s m
   -- two labels are equal exactly for one family
   pub families :
-      (i j : ℕ) (m n : DbMicro) (k l : ℤ) → At (s .held .micros) i m → At (s .held .micros) j n → At (s .labels) i k → At (s .labels) j l →
+      (i j : ℕ) (m n : DbMicro) (k l : ℤ) →
+      At (s .held .micros) i m →
+      At (s .held .micros) j n →
+      At (s .labels) i k →
+      At (s .labels) j l →
       (k ≡ l) ↔ OneFamily s m n
   -- "Labels count from 0 by first member, −1 otherwise.": a label is −1 or a count, and each smaller count stands before it
   pub counts : (i : ℕ) (k : ℤ) → At (s .labels) i k → (k ≡ negsuc 0) ⊎ ((c : ℕ) × (k ≡ pos c))
@@ -100,6 +105,7 @@ abbrev pub StayTogether : State → State → Type 0
 StayTogether s u = (i j : ℕ) → Together s i j → Together u i j
 
 -- ---- a stream from fresh
+-- m has the smaller creation number
 abbrev pub Older : DbMicro → DbMicro → Type 0
 Older m n = m .id .0 < n .id .0
 
@@ -149,12 +155,15 @@ pub record Fits (s : State) : Type 0 where
       joined s x .links ≡ foldl (gainUnbounded (s .params .settings .lambda) (s .t)) (s .held .links) (pairsOf (map idOf (neighboursOf s x)))
 
 -- ---- demand 3
+-- an opening that is accepted
 abbrev pub Opens : Settings → Type 0
 Opens = whole.Opens dbstream
 
+-- the stream after the inserts
 abbrev pub after : Settings → List (List Float) → State
 after = whole.after dbstream hasPlace
 
+-- what each insert was answered
 abbrev pub told : Settings → List (List Float) → List Insertion
 told = whole.told dbstream hasPlace
 
@@ -170,7 +179,11 @@ pub record OneStream (p : Settings) (xs : List (List Float)) : Type 0 where
   pub fits : Fits (after p xs)
   -- a number given out before some of the inserts and live after them was live before them: no number is used twice
   pub neverReused :
-      (earlier later : List (List Float)) → earlier ++ later ≡ xs → (a : ℕ) → a < after p earlier .held .next → Live (after p xs .held .micros) a →
+      (earlier later : List (List Float)) →
+      earlier ++ later ≡ xs →
+      (a : ℕ) →
+      a < after p earlier .held .next →
+      Live (after p xs .held .micros) a →
       Live (after p earlier .held .micros) a
 
 -- of two streams, the second's bounds no larger, after the same list
@@ -179,6 +192,7 @@ pub record TwoStreams (p q : Settings) (xs : List (List Float)) : Type 0 where
   pub holdings : SameHoldings (after p xs) (after q xs)
   pub labels : StayTogether (clusterOf (after p xs)) (clusterOf (after q xs))
 
+-- for all settings that open, and all lists of inserts
 pub record Demand3 : Type 0 where
   pub one : (p : Settings) → Opens p → (xs : List (List Float)) → OneStream p xs
   pub two : (p q : Settings) → Opens p → Opens q → Laxer p q → (xs : List (List Float)) → TwoStreams p q xs

@@ -47,6 +47,7 @@ Weighs s i v = Summed (λ k. OneGroup s k i) 0 nought (fadedWeights s) v
 abbrev pub UnderMu : State → Float → Type 0
 UnderMu s v = le (s .params .settings .mu) v ≡ false
 
+-- the label at the place i
 abbrev pub label : State → ℕ → ℤ
 label s i = getD (s .labels) i (negsuc 0)
 
@@ -59,7 +60,11 @@ pub record LabelsTellGroups (s : State) : Type 0 where
   pub light : (i : ℕ) (v : Float) → i < length (s .held .potential) → Weighs s i v → (label s i ≡ negsuc 0) ↔ UnderMu s v
   -- two labels are equal exactly where both groups weigh under mu, or both lie in one group
   pub groups :
-      (i j : ℕ) (v u : Float) → i < length (s .held .potential) → j < length (s .held .potential) → Weighs s i v → Weighs s j u →
+      (i j : ℕ) (v u : Float) →
+      i < length (s .held .potential) →
+      j < length (s .held .potential) →
+      Weighs s i v →
+      Weighs s j u →
       (label s i ≡ label s j) ↔ ((UnderMu s v × UnderMu s u) ⊎ OneGroup s i j)
   -- "Labels count from 0 by first member, −1 otherwise.": a label is −1 or a count, and each smaller count stands before it
   pub counts : (i : ℕ) → i < length (s .held .potential) → (label s i ≡ negsuc 0) ⊎ ((c : ℕ) × (label s i ≡ pos c))
@@ -78,17 +83,21 @@ pub record Kept (n dim : ℕ) (m : DenMicro) : Type 0 where
   pub before : birth < n
   pub born : m .t0 ≡ whole birth
 
+-- what is kept of both pools
 pub record Figures (n : ℕ) (s : State) : Type 0 where
   pub potential : Each (Kept n (s .params .settings .dim)) (s .held .potential)
   pub outliers : Each (Kept n (s .params .settings .dim)) (s .held .outliers)
 
 -- ---- demand 3
+-- an opening that is accepted
 abbrev pub Opens : Settings → Type 0
 Opens = whole.Opens denstream
 
+-- the stream after the inserts
 abbrev pub after : Settings → List (List Float) → State
 after = whole.after denstream hasPlace
 
+-- what each insert was answered
 abbrev pub told : Settings → List (List Float) → List Insertion
 told = whole.told denstream hasPlace
 
@@ -104,6 +113,7 @@ pub record OneStream (p : Settings) (xs : List (List Float)) : Type 0 where
   pub holdings : FromFresh (acceptedIn (told p xs)) (after p xs)
   pub figures : Figures (acceptedIn (told p xs)) (after p xs)
 
+-- for all settings that open, and all lists of inserts
 pub record Demand3 : Type 0 where
   pub one : (p : Settings) → Opens p → (xs : List (List Float)) → OneStream p xs
   pub calls : whole.Calls denstream hasPlace

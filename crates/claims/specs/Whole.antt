@@ -16,6 +16,7 @@ use Rattle.model.specs.Run.{runOf, answersOf}
 use Rattle.model.specs.Stream.{State, Kind, asked, fresh, openOf, insertBy}
 use Rattle.claims.specs.History.{seenFrom}
 
+-- an opening with these settings is accepted
 abbrev pub Opens : {S P H : Type 0} → Kind S P H → S → Type 0
 Opens k p = asked k p ≡ Open
 
@@ -46,6 +47,7 @@ module _ {S P H : Type 0} (k : Kind S P H) (place : State P H → List Float →
     -- and its window has room for any value: no insert meets the window's refusal 8
     pub window : (v : Float) → updateOf (after p xs .drift .window) v .refusal ≡ 0
 
+  -- of single calls
   pub record Calls : Type 0 where
     -- "Fresh means as an accepted opening gives it"
     pub opened : (p : S) → Opens k p → openOf k p .stream ≡ fresh k p

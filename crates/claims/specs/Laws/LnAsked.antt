@@ -31,6 +31,7 @@ ten : T (le one (two ⊗ side))
 unfolding computed
 ten = tt
 
+-- "while the width is at least 10": ln is asked no less
 pub width-asked : (width : Float) → le (two ⊗ side) width ≡ true → T (le one width)
 width-asked width e = le-trans-all one (two ⊗ side) width ten (subst T (sym e) tt)
 
@@ -41,7 +42,9 @@ one-is-whole = refl
 
 above-one : (a c : ℕ) → 0 < c → c ≤ a → T (le one (round binary64 false a c))
 unfolding ofInt
-above-one a c z h = subst (λ (o : Float). T (le o (round binary64 false a c))) (sym one-is-whole) (round-mono-signed binary64 false 1 1 false a c (omega arith) z (omega arith))
+above-one a c z h =
+    let rounded = round-mono-signed binary64 false 1 1 false a c (omega arith) z (omega arith) in
+    subst (λ (o : Float). T (le o (round binary64 false a c))) (sym one-is-whole) rounded
 
 at-least : (m : ℕ) (e : ℤ) → T (le one (fin false m e)) → down e ≤ m * up e
 unfolding ofBits
@@ -58,16 +61,20 @@ over (fin false m d) n e p h k = quotient
   where
     quotient : T (le one (fin false m d ⊘ fin false (suc n) e))
     quotient =
+        let some : 0 < suc n * up e * down d = mul-pos (mul-pos (omega arith) (up-pos e)) (down-pos d) in
+        let g : suc n * up e * down d ≤ down e * (m * up d) = mul-le-mul k (at-least m d h) in
+        let c = mul-comm (down e) (m * up d) in
         subst (λ (q : Float). T (le one q)) (sym (div-fin binary64 false m d false n e))
-        (above-one (m * up d * down e) (suc n * up e * down d) (mul-pos (mul-pos (omega arith) (up-pos e)) (down-pos d))
-        (let g : suc n * up e * down d ≤ down e * (m * up d) = mul-le-mul k (at-least m d h) in let c = mul-comm (down e) (m * up d) in omega arith))
+        (above-one (m * up d * down e) (suc n * up e * down d) some (omega arith))
 
 -- twice what is at least 1
 doubled-fin : (m : ℕ) (e : ℤ) → T (le one (fin false m e)) → Plus (two ⊗ fin false m e) × T (le one (two ⊗ fin false m e))
 unfolding ofBits
 doubled-fin m e h =
-    subst (λ (q : Float). Plus q × T (le one q)) (sym (mul-fin binary64 false 1 (pos 1) false m e))
-    (plus-round binary64 (1 * 2 * (m * up e)) (1 * down e), above-one (1 * 2 * (m * up e)) (1 * down e) (omega (arith, down-pos e)) (omega (arith, at-least m e h)))
+    subst (λ (q : Float). Plus q × T (le one q)) (sym (mul-fin binary64 false 1 (pos 1) false m e)) (
+      plus-round binary64 (1 * 2 * (m * up e)) (1 * down e),
+      above-one (1 * 2 * (m * up e)) (1 * down e) (omega (arith, down-pos e)) (omega (arith, at-least m e h)),
+    )
 
 doubled : (y : Float) → T (le one y) → Plus (two ⊗ y) × T (le one (two ⊗ y))
 unfolding mul le lt eq ofBits
@@ -124,7 +131,8 @@ minus-small m e = some-above (m * up e * down (negℤ (pos 1022))) (1 * 1 * down
 under-most : (n : ℕ) (e : ℤ) → lt most (fin false (suc n) e) ≡ false → suc n * up e ≤ down e
 unfolding ofBits
 under-most n e q =
-    let h = le-of-not-lt most (fin false (suc n) e) (is-fin false 4503599627370495 (negℤ (pos 52))) (is-fin false (suc n) e) (subst (λ (b : Bool). T (not b)) (sym q) tt) in
+    let bound = is-fin false 4503599627370495 (negℤ (pos 52)) in
+    let h = le-of-not-lt most (fin false (suc n) e) bound (is-fin false (suc n) e) (subst (λ (b : Bool). T (not b)) (sym q) tt) in
     let p = le→parts false (suc n) e false 4503599627370495 (negℤ (pos 52)) h in
     omega arith
 
