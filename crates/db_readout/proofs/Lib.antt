@@ -1,1 +1,2 @@
+-- What the proof of `connectivity` cites.
 pub mod Connected

@@ -54,7 +54,10 @@ pub fn micro_stats(
     weights: &mut [f64],
     radii: &mut [f64],
 ) -> ReadOut
-    ensures { λ r. ⌜ statisticsTold r (now (centres .exit)) (now (weights .exit)) (now (radii .exit)) ≡ statisticsOf (view stream) (now (centres .entry)) (now (weights .entry)) (now (radii .entry)) ⌝ }
+    ensures { λ r. ⌜
+        statisticsTold r (now (centres .exit)) (now (weights .exit)) (now (radii .exit))
+        ≡ statisticsOf (view stream) (now (centres .entry)) (now (weights .entry)) (now (radii .entry))
+        ⌝ }
 {
     let settings = stream.params.settings;
     let micros = stream.micros;

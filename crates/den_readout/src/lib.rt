@@ -52,7 +52,10 @@ pub fn potential_stats(
     weights: &mut [f64],
     radii: &mut [f64],
 ) -> ReadOut
-    ensures { λ r. ⌜ statisticsTold r (now (centres .exit)) (now (weights .exit)) (now (radii .exit)) ≡ statisticsOf (view stream) (now (centres .entry)) (now (weights .entry)) (now (radii .entry)) ⌝ }
+    ensures { λ r. ⌜
+        statisticsTold r (now (centres .exit)) (now (weights .exit)) (now (radii .exit))
+        ≡ statisticsOf (view stream) (now (centres .entry)) (now (weights .entry)) (now (radii .entry))
+        ⌝ }
 {
     let params = stream.params;
     let n = den_placement::potential_held(stream.potential_count);

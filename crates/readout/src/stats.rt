@@ -64,7 +64,10 @@ pub fn statistics(
     weights: &mut [f64],
     radii: &mut [f64],
 ) -> ReadOut
-    ensures { λ r. ⌜ statisticsTold r (now (centres .exit)) (now (weights .exit)) (now (radii .exit)) ≡ statisticsRead lambda t (seen dim n bodies) (now (centres .entry)) (now (weights .entry)) (now (radii .entry)) ⌝ }
+    ensures { λ r. ⌜
+        statisticsTold r (now (centres .exit)) (now (weights .exit)) (now (radii .exit))
+        ≡ statisticsRead lambda t (seen dim n bodies) (now (centres .entry)) (now (weights .entry)) (now (radii .entry))
+        ⌝ }
 {
     let end = lists::cut(n, MICROS);
     let width = lists::cut(dim, MAX_DIM);

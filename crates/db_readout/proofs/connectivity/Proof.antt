@@ -1,3 +1,4 @@
+-- `connectivity` calls for the identities, the mean weight and the links; Connected joins what they promise.
 use Rattle.db_readout.proofs.Connected.{connected}
 use borrow.Author.Needs.{needs}
 use Rattle.db_readout.proofs.connectivity.Statement.{statement}
