@@ -49,7 +49,8 @@ roots-cut eps2 d k n end pool es roots e c h p r = r ∙ ap (rootsOf end) (p ∙
 pub roots-low : (end : ℕ) → end ≤ 64 → (es : List (ℕ × ℕ)) (roots : List ℕ) → roots ≡ rootsOf end es → (i : ℕ) → i < 64 → getD roots i 0 < 64
 roots-low end h es roots e i k = subst (λ (r : List ℕ). getD r i 0 < 64) (sym e) (roots-tell end h es .low i k)
 
-module _ (p : Params) (t : Float) (l : List DenMicro) (end : ℕ) (size : length l ≡ end) (few : end ≤ 64) (roots : List ℕ) (er : roots ≡ rootsOf end (pairsFrom (p .eps2) 0 l))
+module _ (p : Params) (t : Float) (l : List DenMicro) (end : ℕ) (size : length l ≡ end) (few : end ≤ 64)
+    (roots : List ℕ) (er : roots ≡ rootsOf end (pairsFrom (p .eps2) 0 l))
     (ws : List Float) (ew : ws ≡ map (weightOf (p .settings .lambda) t) l) (sums : List Float) (es : sums ≡ sumsOf roots ws)
     (mask : List Bool) (em : mask ≡ map (λ (v : ℕ). le (p .settings .mu) (getD sums v nan)) (take end roots)) where
   abbrev pairs : List (ℕ × ℕ)

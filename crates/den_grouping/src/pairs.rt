@@ -26,8 +26,14 @@ fn pair_row(
     b: &mut [usize; PAIRS],
     count: usize,
 ) -> usize
-    requires { ⌜ (i < n) × (n ≤ microsMost) × (count + length (rowAt eps2 i (seen dim n pool)) ≤ pairsMost) × (length (now a) ≡ pairsMost) × (length (now b) ≡ pairsMost) ⌝ }
-    ensures { λ r. ⌜ pairsOf (take r (now (a .exit))) (take r (now (b .exit))) ≡ pairsOf (take count (now (a .entry))) (take count (now (b .entry))) ++ rowAt eps2 i (seen dim n pool) ⌝ }
+    requires { ⌜
+        (i < n) × (n ≤ microsMost) × (count + length (rowAt eps2 i (seen dim n pool)) ≤ pairsMost)
+        × (length (now a) ≡ pairsMost) × (length (now b) ≡ pairsMost)
+        ⌝ }
+    ensures { λ r. ⌜
+        pairsOf (take r (now (a .exit))) (take r (now (b .exit)))
+        ≡ pairsOf (take count (now (a .entry))) (take count (now (b .entry))) ++ rowAt eps2 i (seen dim n pool)
+        ⌝ }
     ensures counted { λ r. ⌜ r ≡ count + length (rowAt eps2 i (seen dim n pool)) ⌝ }
     ensures sized { λ r. ⌜ (length (now (a .exit)) ≡ pairsMost) × (length (now (b .exit)) ≡ pairsMost) ⌝ }
 {

@@ -23,8 +23,9 @@ use Rattle.den_pool.specs.Tried.{triedBy, triedOf, trialTold}
 use Rattle.den_pool.specs.Laws.Tried.{newborn-in, absorbs-in}
 
 -- what the search among the distances measured finds; dim is the code's cut
-module _ (p : Params) (low : p .settings .dim ≤ maxDim) (dim : ℕ) (c : dim ≡ p .settings .dim) (point : List Float) (size : length point ≡ maxDim) (n : ℕ) (pool : List DenMicro)
-    (ds : List Float) (measured : ds ≡ map (distanceOf dim (take dim point)) (take n pool)) (found : Found) (among : found ≡ nearestAmong ds) where
+module _ (p : Params) (low : p .settings .dim ≤ maxDim) (dim : ℕ) (c : dim ≡ p .settings .dim) (point : List Float) (size : length point ≡ maxDim)
+    (n : ℕ) (pool : List DenMicro) (ds : List Float)
+    (measured : ds ≡ map (distanceOf dim (take dim point)) (take n pool)) (found : Found) (among : found ≡ nearestAmong ds) where
   abbrev x : List Float
   x = take (p .settings .dim) point
 
