@@ -1,6 +1,5 @@
 -- `labels` meets its contract. Assumes nothing.
 use borrow.Author.Needs.{needs}
-use Rattle.denstream.specs.View.{view}
 use Rattle.den_readout.proofs.labels.Statement.{statement}
 use Rattle.den_readout.proofs.labels.Tie as tie
 

@@ -1,6 +1,5 @@
 -- `n_clusters` meets its contract. Assumes nothing.
 use borrow.Author.Needs.{needs}
-use Rattle.denstream.specs.View.{view}
 use Rattle.den_readout.proofs.n_clusters.Statement.{statement}
 use Rattle.den_readout.proofs.n_clusters.Tie as tie
 

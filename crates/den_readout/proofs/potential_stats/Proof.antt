@@ -8,7 +8,7 @@ use Rattle.model.specs.declared.body.Body.{Body}
 use Rattle.model.specs.ReadOut.{statisticsRead}
 use Rattle.readout.specs.Laws.Seen.{bodies-are}
 use Rattle.den_pool.specs.Held.{microIn, seen, bodyOf}
-use Rattle.denstream.specs.View.{view, heldIn}
+use Rattle.denstream.specs.View.{heldIn}
 use Rattle.den_readout.proofs.potential_stats.Statement.{statement}
 use Rattle.den_readout.proofs.potential_stats.Tie as tie
 
