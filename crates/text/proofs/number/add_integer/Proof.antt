@@ -20,10 +20,12 @@ returns c =
 
 returns-2 : tie.Need-returns-2
 returns-2 c =
-    let s = c .before .before .before .before .before in
-    let size = c .before .before .before .before .magnitude .ensures ∙ ap natAbs (toZ-ofZ (s .fits .n)) in
+    let at-if1 = c .before .before .before in
+    let at-magnitude = at-if1 .before in
+    let start = at-magnitude .before in
+    let size = at-magnitude .magnitude .ensures ∙ ap natAbs (toZ-ofZ (start .fits .n)) in
     let digits = ap (λ (n : ℕ). ascii "-" ++ decimal n) size in
-    worded (digits ∙ text-below (s .args .n) (s .fits .n) (c .before .before .before .if1 .left))
+    worded (digits ∙ text-below (start .args .n) (start .fits .n) (at-if1 .if1 .left))
     (both (c .before .add .ensures) (c .«add-number2» .ensures))
 
 pub add-integer-spec : {M : Type 1} → statement M

@@ -11,12 +11,17 @@ use Rattle.text.proofs.number.add_right.Tie as tie
 
 returns : tie.Need-returns
 returns c =
-    let a = c .before .before .before .before .before .before .before .args in
-    let d = c .before .before .before .before .before .decimal in
+    let at-add-byte = c .before .before in
+    let at-add-blanks = at-add-byte .before in
+    let at-beyond = at-add-blanks .before in
+    let at-decimal = at-beyond .before in
+    let start = at-decimal .before .before in
+    let a = start .args in
+    let d = at-decimal .decimal in
     let e = d .ensures .1 .1 ∙ decimal-is (a .n) (d .result) (d .ensures .1 .0) in
-    let w = c .before .before .before .before .beyond .ensures ∙ ap (λ (k : ℕ). a .width - k) (d .ensures .0 .1 ∙ ap length e) in
-    let apart = worded (ap blanks w) (c .before .before .before .«add-blanks» .ensures) in
-    let signed = c .before .before .«add-byte» .ensures in
+    let w = at-beyond .beyond .ensures ∙ ap (λ (k : ℕ). a .width - k) (d .ensures .0 .1 ∙ ap length e) in
+    let apart = worded (ap blanks w) (at-add-blanks .«add-blanks» .ensures) in
+    let signed = at-add-byte .«add-byte» .ensures in
     both (both apart signed) (worded e (c .add .ensures))
 
 pub add-right-spec : {M : Type 1} → statement M

@@ -11,9 +11,11 @@ use Rattle.text.proofs.refusal.refused.Tie as tie
 
 returns : tie.Need-returns
 returns c =
-    let n = c .before .before .before .before .before .before .args .number in
+    let at-blank = c .before .before .before .before .before in
+    let start = at-blank .before in
+    let n = start .args .number in
     let fits = beside (beside (piece (ascii "refused ")) (number-within n (omega arith))) (piece (ascii "\n")) in
-    let b = c .before .before .before .before .before .blank in
+    let b = at-blank .blank in
     let line : Added (b .result) (refusedLine n) (c .add2 .result) = search both in
     from-blank (b .ensures .0) line (omega (arith, fits .is))
 

@@ -33,21 +33,26 @@ loop-holds c =
 
 loop-again : tie.Need-loop-again Inv-loop μ-loop
 loop-again c =
-    let a = c .before .before .before .before .before .before .before .args in
-    let at = c .before .before .before .before .cut .result in
-    let l = c .before .before .loop in
+    let at-loop = c .before .before in
+    let at-cut = at-loop .before .before in
+    let start = at-cut .before .before .before in
+    let a = start .args in
+    let at = at-cut .cut .result in
+    let l = at-loop .loop in
     let next = byte-more (a .text .bytes) at (a .piece .now) (l .bytes) (l .i) (omega arith) (omega arith) (l .inv .4) in
     (omega arith, omega arith, omega arith, search needs, next)
 
 returns : tie.Need-returns Inv-loop μ-loop
 returns c =
-    let s = c .before .before .before .before .before .before in
+    let at-cut2 = c .before .before in
+    let at-cut = at-cut2 .before in
+    let start = at-cut .before .before .before in
     let l = c .before .loop in
-    let e : l .i ≡ c .before .before .cut2 .result = omega arith in
-    let at = c .before .before .before .cut in
-    let n = c .before .before .cut2 in
-    let full = roomy (s .args .text) _ (s .good .0 .1 .1 .0 .1 .0 .1) in
-    added (s .args .text) (at .result) (n .result) (s .args .piece .now) (l .bytes) full (at .ensures) (n .ensures) (rw (← e) (l .inv .4))
+    let e : l .i ≡ at-cut2 .cut2 .result = omega arith in
+    let at = at-cut .cut in
+    let n = at-cut2 .cut2 in
+    let full = roomy (start .args .text) _ (start .good .0 .1 .1 .0 .1 .0 .1) in
+    added (start .args .text) (at .result) (n .result) (start .args .piece .now) (l .bytes) full (at .ensures) (n .ensures) (rw (← e) (l .inv .4))
 
 pub add-spec : {M : Type 1} → statement M
 add-spec =

@@ -34,9 +34,11 @@ slice-aggregate-write c = long (c .before .before .before .before) (c .before .c
 
 returns : tie.Need-returns
 returns c =
-    let s = c .before .before .before .before .before .before .before .before in
-    let cut = c .before .before .before .before .before .cut in
-    c .before .before .write .ensures ∙ ap (λ (t : List ℕ). writeOf t (s .args .output .now)) (text s (cut .result) (cut .ensures))
+    let at-write = c .before .before in
+    let at-cut = at-write .before .before .before in
+    let start = at-cut .before .before .before in
+    let cut = at-cut .cut in
+    at-write .write .ensures ∙ ap (λ (t : List ℕ). writeOf t (start .args .output .now)) (text start (cut .result) (cut .ensures))
 
 pub write-spec : {M : Type 1} → statement M
 write-spec =

@@ -9,8 +9,10 @@ returns c = let a = c .before .before .before .args in none-shown (a .self) (a .
 
 returns-2 : tie.Need-returns-2
 returns-2 c =
-    let a = c .before .before .before .before .before .args in
-    all-shown (a .self) (a .output .now) _ (c .cut .result) (c .before .before .self .given .1) (c .cut .ensures)
+    let at-self = c .before .before in
+    let start = at-self .before .before .before in
+    let a = start .args in
+    all-shown (a .self) (a .output .now) _ (c .cut .result) (at-self .self .given .1) (c .cut .ensures)
 
 pub count-spec : {M : Type 1} → statement M
 count-spec =
