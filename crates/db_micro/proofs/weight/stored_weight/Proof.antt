@@ -26,19 +26,27 @@ loop-holds c =
 
 returns : tie.Need-returns Inv-loop μ-loop
 returns c =
-    let k = c .before .before .before .before .before .before .loop in
-    let a = c .before .before .before .before .before .before .before .before .args in
-    sym (weight-here (a .id) (c .before .before .before .before .before .before .before .cut .result) (k .i) (a .t1) _
-    (c .before .before .before .before .before .loop-test .taken) (omega arith) (c .if1 .taken)) ∙ k .inv .2
+    let at-test = c .before .before .before .before .before in
+    let at-loop = at-test .before in
+    let at-cut = at-loop .before in
+    let start = at-cut .before in
+    let k = at-loop .loop in
+    let a = start .args in
+    sym (weight-here (a .id) (at-cut .cut .result) (k .i) (a .t1) _
+    (at-test .loop-test .taken) (omega arith) (c .if1 .taken)) ∙ k .inv .2
 
 loop-again : tie.Need-loop-again Inv-loop μ-loop
 loop-again c =
-    let k = c .before .before .before .before .before .before .loop in
-    let a = c .before .before .before .before .before .before .before .before .args in (
+    let at-test = c .before .before .before .before .before in
+    let at-loop = at-test .before in
+    let at-cut = at-loop .before in
+    let start = at-cut .before in
+    let k = at-loop .loop in
+    let a = start .args in (
       omega arith,
       omega arith,
-      weight-next (a .id) (c .before .before .before .before .before .before .before .cut .result) (k .i) (a .t1) _
-          (c .before .before .before .before .before .loop-test .taken) (omega arith) (c .if1 .left) ∙ k .inv .2,
+      weight-next (a .id) (at-cut .cut .result) (k .i) (a .t1) _
+          (at-test .loop-test .taken) (omega arith) (c .if1 .left) ∙ k .inv .2,
     )
 
 returns-2 : tie.Need-returns-2 Inv-loop μ-loop

@@ -20,8 +20,11 @@ loop-holds c = gather-starts (c .cut .ensures) (omega arith) refl
 
 loop-again : tie.Need-loop-again Inv-loop μ-loop
 loop-again c =
-    gather-goes (c .before .before .before .before .loop .inv) _ (c .before .before .before .loop-test .taken)
-    (ap (λ (w : Float). le (c .before .before .before .before .before .before .args .«min-weight») w) (c .faded-weight .ensures))
+    let at-test = c .before .before .before in
+    let at-loop = at-test .before in
+    let start = at-loop .before .before in
+    gather-goes (at-loop .loop .inv) _ (at-test .loop-test .taken)
+    (ap (λ (w : Float). le (start .args .«min-weight») w) (c .faded-weight .ensures))
 
 returns : tie.Need-returns Inv-loop μ-loop
 returns c = gather-ends (c .before .loop .inv) (omega arith)
