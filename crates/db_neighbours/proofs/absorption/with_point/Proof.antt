@@ -36,10 +36,14 @@ loop-again c =
 
 returns : tie.Need-returns Inv-loop μ-loop
 returns c =
-    let a = c .before .before .before .before .before .before .args in
-    let n = c .before .before .before .before .before .cut in
+    let at-if2 = c .before .before in
+    let at-if1 = at-if2 .before in
+    let at-cut = at-if1 .before .before in
+    let start = at-cut .before in
+    let a = start .args in
+    let n = at-cut .cut in
     born-placed (a .scan) (a .r) (a .lambda) (a .t) (a .next-id) (take (a .dim) (a .x)) (a .n) (a .t1) (n .result) (n .ensures) (omega arith)
-    (c .before .before .before .if1 .taken) (c .before .before .if2 .taken) (c .before .newborn .result) (c .before .newborn .ensures)
+    (at-if1 .if1 .taken) (at-if2 .if2 .taken) (c .before .newborn .result) (c .before .newborn .ensures)
     (c .«wrapping-add-u64» .result) (c .«wrapping-add-u64» .ensures)
 
 returns-2 : tie.Need-returns-2 Inv-loop μ-loop
@@ -51,11 +55,14 @@ returns-2 c =
 
 returns-3 : tie.Need-returns-3 Inv-loop μ-loop
 returns-3 c =
-    let a = c .before .before .before .before .before .before .args in
-    let n = c .before .before .before .before .before .cut in
+    let at-if1 = c .before .before .before in
+    let at-cut = at-if1 .before .before in
+    let start = at-cut .before in
+    let a = start .args in
+    let n = at-cut .cut in
     let k = c .before .loop in
     absorbed-placed (a .scan) (a .r) (a .lambda) (a .t) (a .next-id) (take (a .dim) (a .x)) (a .n) (a .t1) (n .result) (n .ensures) (omega arith)
-    (distances-room (c .before .before .before .before .before .before)) (c .before .before .before .if1 .left) (k .micros) (k .inv .size)
+    (distances-room start) (at-if1 .if1 .left) (k .micros) (k .inv .size)
     (absorbing-ends (k .inv) (c .loop-test .left))
 
 pub with-point-spec : {M : Type 1} → statement M

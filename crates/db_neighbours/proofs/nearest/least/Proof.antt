@@ -33,9 +33,12 @@ loop-holds c =
 
 loop-again : tie.Need-loop-again Inv-loop μ-loop
 loop-again c =
-    let k = c .before .before .loop in
-    let n = c .before .before .before .before .cut .result in
-    let ds = c .before .before .before .before .before .args .t1 in (
+    let at-loop = c .before .before in
+    let at-cut = at-loop .before .before in
+    let start = at-cut .before in
+    let k = at-loop .loop in
+    let n = at-cut .cut .result in
+    let ds = start .args .t1 in (
       omega arith,
       omega arith,
       ap (λ (b : Float). Distance (foldl smaller b (rest n (k .i + 1) ds))) (c .min .ensures)

@@ -43,11 +43,15 @@ loop-holds c =
 
 loop-again : tie.Need-loop-again Inv-loop μ-loop
 loop-again c =
-    let k = c .before .before .before .before .before .before .loop in
-    let a = c .before .before .before .before .before .before .before .before .args in
-    let n = c .before .before .before .before .before .before .before .cut .result in
+    let at-test = c .before .before .before .before .before in
+    let at-loop = at-test .before in
+    let at-cut = at-loop .before in
+    let start = at-cut .before in
+    let k = at-loop .loop in
+    let a = start .args in
+    let n = at-cut .cut .result in
     let q = k .inv in
-    let h : k .i < n = c .before .before .before .before .before .loop-test .taken in
+    let h : k .i < n = at-test .loop-test .taken in
     let fits : n ≤ length (a .t1) = omega (arith, q .0 .cut) in
     let measured = c .before .«sq-euclidean» .ensures in
     let p = isNear (a .r) (take (a .dim) (a .x)) (a .dim) in
