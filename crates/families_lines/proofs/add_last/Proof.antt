@@ -8,8 +8,8 @@ use Rattle.families_lines.proofs.add_last.Tie as tie
 
 returns : tie.Need-returns
 returns c =
-    let s = c .before .before .before .before .before .before .before .before in
-    (search both, last-within (s .args .report) (omega arith) (omega arith))
+    let start = c .before .before .before .before .before .before .before .before in
+    (search both, last-within (start .args .report) (omega arith) (omega arith))
 
 pub add-last-spec : {M : Type 1} → statement M
 add-last-spec =

@@ -11,9 +11,10 @@ use Rattle.families_lines.proofs.add_line.Tie as tie
 
 returns : tie.Need-returns
 returns c =
-    let s = c .before .before .before .before .before .before in
-    let label = worded (ap integer (toZ-ofZ (s .fits .label))) (c .before .before .«add-integer» .ensures) in
-    (search both, line-within (s .args .id) (s .args .label) (omega arith) (s .fits .label .sfits))
+    let at-add-integer = c .before .before in
+    let start = at-add-integer .before .before .before .before in
+    let label = worded (ap integer (toZ-ofZ (start .fits .label))) (at-add-integer .«add-integer» .ensures) in
+    (search both, line-within (start .args .id) (start .args .label) (omega arith) (start .fits .label .sfits))
 
 pub add-line-spec : {M : Type 1} → statement M
 add-line-spec =

@@ -24,8 +24,10 @@ loop-holds c =
 
 loop-again : tie.Need-loop-again Inv-loop μ-loop
 loop-again c =
-    let a = c .before .before .before .before .before .args in
-    let l = c .before .before .before .before .loop in
+    let at-loop = c .before .before .before .before in
+    let start = at-loop .before in
+    let a = start .args in
+    let l = at-loop .loop in
     let p = c .«add-line» .ensures in (
       omega arith,
       lines-more (l .i) (a .t2) (a .t3) _ (pos 0) (omega arith) (omega arith) (l .inv .1) (p .0) (p .1)
