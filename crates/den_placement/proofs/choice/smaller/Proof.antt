@@ -7,10 +7,16 @@ returns-2 : tie.Need-returns-2
 returns-2 c = rw (c .before .before .before .potential .given .1, c .enum-told2 .given .1)
 
 returns-3 : tie.Need-returns-3
-returns-3 c = rw (c .before .before .before .before .before .potential .given .1, c .before .before .outlier .given .1, c .if1 .taken)
+returns-3 c =
+    let at-outlier = c .before .before in
+    let at-potential = at-outlier .before .before .before in
+    rw (at-potential .potential .given .1, at-outlier .outlier .given .1, c .if1 .taken)
 
 returns-4 : tie.Need-returns-4
-returns-4 c = rw (c .before .before .before .before .before .potential .given .1, c .before .before .outlier .given .1, c .if1 .left)
+returns-4 c =
+    let at-outlier = c .before .before in
+    let at-potential = at-outlier .before .before .before in
+    rw (at-potential .potential .given .1, at-outlier .outlier .given .1, c .if1 .left)
 
 pub smaller-spec : {M : Type 1} → statement M
 smaller-spec =
