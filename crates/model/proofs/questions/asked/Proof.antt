@@ -8,16 +8,19 @@ use Rattle.model.proofs.questions.asked.Statement.{statement}
 use Rattle.model.proofs.questions.asked.Tie as tie
 
 -- ---- where a question is asked, those before it were answered with yes
-yes-dim : (c : tie.After-positive) → dimInRange (c .before .before .before .args .dim) ≡ true
+abbrev came : tie.After-positive → tie.Start
+came c = c .before .before .before
+
+yes-dim : (c : tie.After-positive) → dimInRange (came c .args .dim) ≡ true
 yes-dim c = sym (c .before .before .dim-in-range .ensures) ∙ not-false _ (c .before .if1 .left)
 
-yes-radius : (c : tie.After-lambda-in-range) → positive (c .before .before .before .before .before .args .radius) ≡ true
+yes-radius : (c : tie.After-lambda-in-range) → positive (came (c .before .before) .args .radius) ≡ true
 yes-radius c = sym (c .before .before .positive .ensures) ∙ not-false _ (c .before .if2 .left)
 
-yes-lambda : (c : tie.After-share-in-range) → lambdaInRange (c .before .before .before .before .before .before .before .args .lambda) ≡ true
+yes-lambda : (c : tie.After-share-in-range) → lambdaInRange (came (c .before .before .before .before) .args .lambda) ≡ true
 yes-lambda c = sym (c .before .before .lambda-in-range .ensures) ∙ not-false _ (c .before .if3 .left)
 
-yes-share : (c : tie.After-positive2) → shareInRange (c .before .before .before .before .before .before .before .before .before .args .share) ≡ true
+yes-share : (c : tie.After-positive2) → let share = c .before .before in shareInRange (came (share .before .before .before .before) .args .share) ≡ true
 yes-share c = sym (c .before .before .share-in-range .ensures) ∙ not-false _ (c .before .if4 .left)
 
 -- ---- the answers
