@@ -11,12 +11,16 @@ returns c =
     let a = c .before .before .args in
     carried-turn (a .lambda) (a .t) (a .self) (a .l) (c .carried .result) (c .before .if1 .taken) (c .carried .ensures)
 
+-- nothing is carried where the place is among the links
+abbrev not-carried : tie.Then2 → tie.Else1
+not-carried c = c .before .before .before .before .before
+
 returns-2 : tie.Need-returns-2
 returns-2 c =
     let at-if3 = c .before .before .before in
     let at-is-before = at-if3 .before in
     let at-if2 = at-is-before .before in
-    let at-if1 = at-if2 .before .before .before .before .before in
+    let at-if1 = not-carried at-if2 in
     let a = at-if1 .before .args in
     passed-turn (a .lambda) (a .t) (a .self) (a .l) (at-if1 .if1 .left) (at-if2 .if2 .taken)
     (sym (at-is-before .«is-before» .ensures) ∙ at-if3 .if3 .taken)
@@ -30,7 +34,7 @@ returns-3 c =
     let at-if3 = at-same-ends .before in
     let at-is-before = at-if3 .before in
     let at-if2 = at-is-before .before in
-    let at-if1 = at-if2 .before .before .before .before .before in
+    let at-if1 = not-carried at-if2 in
     let a = at-if1 .before .args in
     gained-turn (a .lambda) (a .t) (a .self) (a .l) (at-if1 .if1 .left) (at-since .since .result) (at-gained .gained .result) (at-if2 .if2 .taken)
     (sym (at-is-before .«is-before» .ensures) ∙ at-if3 .if3 .left) (sym (at-same-ends .«same-ends» .ensures) ∙ at-if4 .if4 .taken)
