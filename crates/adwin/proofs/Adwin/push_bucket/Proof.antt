@@ -33,13 +33,15 @@ loop-holds c = walk-starts _ (simp length-set (buckets-room c)) (simp length-set
 
 loop-again : tie.Need-loop-again Inv-loop2 μ-loop2 Inv-loop μ-loop
 loop-again c =
-    let p = c .before .before .before .before in
-    walk-stops _ _ _ _ _ (p .loop .inv) (p .loop .i - 1) (omega arith) (c .if1 .taken)
+    let at-loop = c .before .before .before .before in
+    walk-stops _ _ _ _ _ (at-loop .loop .inv) (at-loop .loop .i - 1) (omega arith) (c .if1 .taken)
 
 loop2-holds : tie.Need-loop2-holds Inv-loop2 μ-loop2 Inv-loop μ-loop
 loop2-holds c =
-    let p = c .before .before .before .before .before .before .before .before .before in
-    closing-starts _ _ _ (simp length-set (p .loop .inv .alike .buckets)) (simp length-set (p .loop .inv .alike .classes)) (omega arith)
+    let at-merged = c .before in
+    let at-if1 = at-merged .before .before .before .before in
+    let at-loop = at-if1 .before .before .before .before in
+    closing-starts _ _ _ (simp length-set (at-loop .loop .inv .alike .buckets)) (simp length-set (at-loop .loop .inv .alike .classes)) (omega arith)
     (omega arith) (omega arith)
 
 loop2-again : tie.Need-loop2-again Inv-loop2 μ-loop2 Inv-loop μ-loop
@@ -54,19 +56,21 @@ loop-again-2 c =
     let at-merged = at-next-class .before in
     let at-if2 = at-merged .before .before .before in
     let at-if1 = at-if2 .before in
-    let p = at-if1 .before .before .before .before in
-    walk-merges _ _ _ _ _ (p .loop .inv) (p .loop .i - 1) (omega arith) (at-if1 .if1 .left) (at-if2 .if2 .taken) _ _ (at-merged .merged .ensures)
+    let at-loop = at-if1 .before .before .before .before in
+    walk-merges _ _ _ _ _ (at-loop .loop .inv) (at-loop .loop .i - 1) (omega arith) (at-if1 .if1 .left) (at-if2 .if2 .taken) _ _ (at-merged .merged .ensures)
     (at-next-class .next-class .ensures) _ _ _ (c .before .loop2 .inv) (c .loop2-test .left)
 
 loop-again-3 : tie.Need-loop-again-3 Inv-loop2 μ-loop2 Inv-loop μ-loop
 loop-again-3 c =
-    let p = c .before .before .before .before .before in
-    walk-goes-on _ _ _ _ _ (p .loop .inv) (p .loop .i - 1) (omega arith) (c .before .if1 .left) (c .if2 .left)
+    let at-if1 = c .before in
+    let at-loop = at-if1 .before .before .before .before in
+    walk-goes-on _ _ _ _ _ (at-loop .loop .inv) (at-loop .loop .i - 1) (omega arith) (at-if1 .if1 .left) (c .if2 .left)
 
 returns : tie.Need-returns Inv-loop2 μ-loop2 Inv-loop μ-loop
 returns c =
-    let p = c .before in
-    (p .loop .inv .room, walk-ends _ _ _ _ _ (buckets-room (p .before)) (classes-room (p .before)) (p .before .pre) (p .loop .inv) (omega arith))
+    let at-loop = c .before in
+    let start = at-loop .before in
+    (at-loop .loop .inv .room, walk-ends _ _ _ _ _ (buckets-room start) (classes-room start) (start .pre) (at-loop .loop .inv) (omega arith))
 
 pub push-bucket-spec : {M : Type 1} → statement M
 push-bucket-spec =

@@ -25,11 +25,16 @@ room-told c =
     let a = c .args .self in
     room-is a (sym (length-map (a .buckets) _) ∙ c .good .0 .1 .1 .1 .0 .1 .0 .1) (sym (length-map (a .classes) _) ∙ c .good .0 .1 .1 .1 .1 .0 .1 .0 .1)
 
+-- the call, from the pushed bucket; and what is known then
+abbrev came : tie.After-push-bucket → tie.Start
+came c =
+    let at-if2 = c .before .before .before in
+    at-if2 .before .before .before .before
+
 pushed :
     (c : tie.After-push-bucket) →
     let at-variance-with = c .before .before in
-    let start = at-variance-with .before .before .before .before .before in
-    Pushed (start .args .self) (start .args .value) (c .push-bucket .result) (at-variance-with .variance-with .result)
+    Pushed (came c .args .self) (came c .args .value) (c .push-bucket .result) (at-variance-with .variance-with .result)
 pushed c =
     let at-variance-with = c .before .before in
     let at-if2 = at-variance-with .before in
@@ -66,18 +71,20 @@ push-bucket-requires c κs =
 
 add-w : tie.Need-add-w
 add-w c =
-    let start = c .before .before .before .before .before .before .before .before .before .before in
-    let p = pushed (c .before .before .before) in
+    let at-push-bucket = c .before .before .before in
+    let p = pushed at-push-bucket in
     omega (
       arith,
       ap (λ (u : Window). u .taken) (p .held),
-      room-taken (view (start .args .self)) (p .room),
+      room-taken (view (came at-push-bucket .args .self)) (p .room),
     )
 
 returns-3 : tie.Need-returns-3
 returns-3 c =
-    let p = pushed (c .before .before .before .before .before .before) in (
-      unsearched _ _ _ _ p (c .before .if3 .taken),
+    let at-if3 = c .before in
+    let at-push-bucket = at-if3 .before .before .before .before .before in
+    let p = pushed at-push-bucket in (
+      unsearched _ _ _ _ p (at-if3 .if3 .taken),
       (
         (λ q. absurd (let z : _≡_ {A = ℕ} 0 8 = q in omega arith)),
         (λ q. absurd
@@ -88,9 +95,11 @@ returns-3 c =
 returns-4 : tie.Need-returns-4
 unfolding shrunk
 returns-4 c =
-    let p = pushed (c .before .before .before .before .before .before) in (
+    let at-if3 = c .before in
+    let at-push-bucket = at-if3 .before .before .before .before .before in
+    let p = pushed at-push-bucket in (
       c .shrink .ensures ∙ searched _ _ _ _ p
-          (c .before .if3 .left),
+          (at-if3 .if3 .left),
       (
         (λ q. absurd (let z : _≡_ {A = ℕ} 8 0 = sym q
             ∙ ap (λ (o : Outcome). o .refusal) (c .shrink .ensures) in omega arith)),
