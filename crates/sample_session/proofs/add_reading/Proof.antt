@@ -10,16 +10,21 @@ use Rattle.sample_session.proofs.add_reading.Tie as tie
 
 returns : tie.Need-returns
 returns c =
-    let a = c .before .before .before .before .before .before .before .before .before .before .before .before .before .args in
+    let at-add-double = c .before .before in
+    let at-unit3 = at-add-double .before in
+    let at-unit2 = at-unit3 .before .before in
+    let at-unit = at-unit2 .before .before in
+    let start = at-unit .before .before .before .before .before .before in
+    let a = start .args in
     let p = a .p in
     let gain = ap (λ (u : Float). doubleBytes (whole (p .gain) ⊖ whole (p .loss) ⊕ whole (p .spread) ⊗ u ⊕ walked p (a .i)))
-    (c .before .before .before .before .before .before .before .unit .ensures)
+    (at-unit .unit .ensures)
     in
     let swing = ap (λ (u : Float). doubleBytes (whole (p .amplitude) ⊕ whole (p .spread) ⊗ u ⊖ walked p (a .i)))
-    (c .before .before .before .before .before .unit2 .ensures)
+    (at-unit2 .unit2 .ensures)
     in
-    let error = ap (λ (u : Float). doubleBytes (whole (p .«beat_error») ⊕ whole (p .spread) ⊗ u)) (c .before .before .before .unit3 .ensures) in
-    both (both (worded gain (c .before .before .«add-double» .ensures)) (worded swing (c .before .«add-double2» .ensures)))
+    let error = ap (λ (u : Float). doubleBytes (whole (p .«beat_error») ⊕ whole (p .spread) ⊗ u)) (at-unit3 .unit3 .ensures) in
+    both (both (worded gain (at-add-double .«add-double» .ensures)) (worded swing (c .before .«add-double2» .ensures)))
     (worded error (c .«add-double3» .ensures))
 
 pub add-reading-spec : {M : Type 1} → statement M
