@@ -13,6 +13,9 @@ use Rattle.den_grouping.proofs.groups.group_labels.Tie as tie
 pool-size : (e : tie.Start) → length (e .args .pool) ≡ 64
 pool-size e = omega arith
 
+labels-size : (c : tie.After-labels) → length (c .labels .result) ≡ 64
+labels-size c = search needs
+
 slice-aggregate-roots : tie.Need-slice-aggregate-roots
 slice-aggregate-roots c = sym (length-take-le _ _ (c .before .close-pairs .ensures .1 .0))
 
@@ -21,27 +24,36 @@ slice-aggregate-roots-2 c = sym (length-take-le _ _ (c .before .before .close-pa
 
 reaching-requires : tie.Need-reaching-requires
 reaching-requires c κs =
-    let k = c .before .before .before .before .before .before .before .before .before .cut .ensures in (
+    let at-roots = c .before .before in
+    let at-close-pairs = at-roots .before .before .before in
+    let at-cut = at-close-pairs .before .before .before .before in
+    let k = at-cut .cut .ensures in (
       omega (arith, k),
-      roots-low (c .before .before .before .before .before .before .before .before .before .cut .result) (omega (arith, k)) _ _
-          (c .before .before .roots .ensures),
+      roots-low (at-cut .cut .result) (omega (arith, k)) _ _
+          (at-roots .roots .ensures),
     )
 
 returns : tie.Need-returns
 returns c =
-    let e = c .before .before .before .before .before .before .before .before .before .before .before .before in
-    let a = e .args in
-    let k = c .before .before .before .before .before .before .before .before .before .before .before .cut in
-    let s = pool-size e in
+    let at-sums = c .before .before in
+    let at-faded-weights = at-sums .before in
+    let at-roots = at-faded-weights .before in
+    let at-close-pairs = at-roots .before .before .before in
+    let at-cut2 = at-close-pairs .before .before .before in
+    let at-cut = at-cut2 .before in
+    let start = at-cut .before in
+    let a = start .args in
+    let k = at-cut .cut in
+    let s = pool-size start in
     let d : ℕ = min (a .params .settings .dim) 15 in
     let l = seen d (a .n) (a .pool) in
     labelled (a .params) (a .t) l (k .result) (seen-size d (a .n) (k .result) (a .pool) (k .ensures) s) (omega (arith, k .ensures)) _
     (roots-cut (a .params .eps2) _ d (a .n) (k .result) (a .pool) _ _
-    (c .before .before .before .before .before .before .before .before .before .before .cut2 .ensures) (k .ensures) s
-    (c .before .before .before .before .before .before .before .close-pairs .ensures .0) (c .before .before .before .before .roots .ensures))
-    _ (weights-cut d (a .n) (k .result) (a .pool) (a .params .settings .lambda) (a .t) _ (k .ensures) s (c .before .before .before .faded-weights .ensures))
-    _ (c .before .before .sums .ensures) _ (c .before .reaching .ensures) (a .n) _ (k .ensures) (c .before .reaching .result) refl
-    (c .labels .ensures) (search needs)
+    (at-cut2 .cut2 .ensures) (k .ensures) s
+    (at-close-pairs .close-pairs .ensures .0) (at-roots .roots .ensures))
+    _ (weights-cut d (a .n) (k .result) (a .pool) (a .params .settings .lambda) (a .t) _ (k .ensures) s (at-faded-weights .faded-weights .ensures))
+    _ (at-sums .sums .ensures) _ (c .before .reaching .ensures) (a .n) _ (k .ensures) (c .before .reaching .result) refl
+    (c .labels .ensures) (labels-size c)
 
 pub group-labels-spec : {M : Type 1} → statement M
 group-labels-spec =

@@ -33,10 +33,13 @@ pair-row-requires c κs =
 
 loop-again : tie.Need-loop-again Inv-loop μ-loop
 loop-again c =
-    let a = c .before .before .before .before .before .args in
-    let l = c .before .before .before .before .loop in
+    let at-test = c .before .before .before in
+    let at-loop = at-test .before in
+    let start = at-loop .before in
+    let a = start .args in
+    let l = at-loop .loop in
     pair-next (a .eps2) (a .dim) (a .n) (a .pool) (l .a) (l .b) (l .count) (l .i) (l .inv) (omega arith)
-    (c .before .before .before .loop-test .taken) _ _ (c .pair-row .result) (c .pair-row .ensures .0) (c .pair-row .ensures .1 .0) (c .pair-row .ensures .1 .1)
+    (at-test .loop-test .taken) _ _ (c .pair-row .result) (c .pair-row .ensures .0) (c .pair-row .ensures .1 .0) (c .pair-row .ensures .1 .1)
 
 returns : tie.Need-returns Inv-loop μ-loop
 returns c =

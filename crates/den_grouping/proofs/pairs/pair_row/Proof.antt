@@ -20,14 +20,23 @@ Inv-loop n i dim eps2 a₀ b₀ count pool centre k₀ j₀ a b k j =
 abbrev μ-loop : tie.MeasureT-loop
 μ-loop n i dim eps2 a₀ b₀ count pool centre k₀ j₀ a b k j = n - j
 
+-- the call, from the loop; and the loop, from a close pair
+abbrev came : tie.At-loop Inv-loop μ-loop → tie.Start Inv-loop μ-loop
+came c = c .before .before .before .before
+
+abbrev turn : tie.Then1 Inv-loop μ-loop → tie.At-loop Inv-loop μ-loop
+turn c = let at-test = c .before .before .before .before .before in at-test .before
+
 -- a close pair has a place in the arrays
-room : (c : tie.Then1 Inv-loop μ-loop) → c .before .before .before .before .before .before .loop .k < 2016
+room : (c : tie.Then1 Inv-loop μ-loop) → turn c .loop .k < 2016
 room c =
-    let a = c .before .before .before .before .before .before .before .before .before .before .args in
-    let l = c .before .before .before .before .before .before .loop in
+    let at-test = c .before .before .before .before .before in
+    let at-loop = at-test .before in
+    let a = came at-loop .args in
+    let l = at-loop .loop in
     let v = c .before .sq-euclidean in
     row-room (a .eps2) (a .i) _ (a .dim) (a .n) (a .t1) _ _ (l .a) (l .b) (l .k) (l .j) (l .inv)
-    (c .before .before .before .before .before .loop-test .taken) (omega arith) _ (v .result) (v .ensures) (c .if1 .taken)
+    (at-test .loop-test .taken) (omega arith) _ (v .result) (v .ensures) (c .if1 .taken)
 
 loop-holds : tie.Need-loop-holds Inv-loop μ-loop
 loop-holds c =
@@ -52,10 +61,12 @@ add-k c = omega (arith, room c)
 
 loop-again : tie.Need-loop-again Inv-loop μ-loop
 loop-again c =
-    let a = c .before .before .before .before .before .before .before .before .before .before .args in
-    let l = c .before .before .before .before .before .before .loop in
+    let at-test = c .before .before .before .before .before in
+    let at-loop = at-test .before in
+    let a = came at-loop .args in
+    let l = at-loop .loop in
     let v = c .before .sq-euclidean in
-    let h = c .before .before .before .before .before .loop-test .taken in
+    let h = at-test .loop-test .taken in
     ⊎-elim
     (λ w. rw (w .1, w .2, w .3) (row-close (a .eps2) (a .i) _ (a .dim) (a .n) (a .t1) _ _ (l .a) (l .b) (l .k) (l .j) (l .inv) h (omega arith) _
     (v .result) (v .ensures) (w .0 .taken)))
@@ -65,8 +76,9 @@ loop-again c =
 
 returns : tie.Need-returns Inv-loop μ-loop
 returns c =
-    let a = c .before .before .before .before .before .args in
-    let l = c .before .loop in
+    let at-loop = c .before in
+    let a = came at-loop .args in
+    let l = at-loop .loop in
     row-end (a .eps2) (a .i) _ (a .dim) (a .n) (a .t1) _ _ (l .a) (l .b) (l .k) (l .j) (l .inv) (c .loop-test .left)
 
 pub pair-row-spec : {M : Type 1} → statement M
