@@ -9,9 +9,12 @@ use Rattle.dbstream.proofs.stream.DbStream.cleaned.Tie as tie
 
 returns : tie.Need-returns
 returns c =
-    let s = c .before .before .before .before .before .before .before .args .self in
-    let kept = c .before .before .before .before .before .retained in
-    let ids = c .before .before .before .ids-of in
+    let at-ids-of = c .before .before .before in
+    let at-retained = at-ids-of .before .before in
+    let start = at-retained .before .before in
+    let s = start .args .self in
+    let kept = at-retained .retained in
+    let ids = at-ids-of .ids-of in
     let bound = c .before .retained2 in
     cleaned s (kept .result .count) (kept .result .micros) (ids .result) (bound .result .count) (bound .result .links)
     (ap (λ (q : Micros). q .micros) (kept .ensures)) (ids .ensures) (ap (λ (q : Links). q .links) (bound .ensures))

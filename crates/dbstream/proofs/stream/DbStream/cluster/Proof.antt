@@ -6,9 +6,12 @@ use Rattle.dbstream.proofs.stream.DbStream.cluster.Tie as tie
 
 returns : tie.Need-returns
 returns c =
-    let s = c .before .before .before .before .before .before .before .args .self in
-    let strong = c .before .before .before .before .strong-ones in
-    let ids = c .before .before .before .ids-of in
+    let at-ids-of = c .before .before .before in
+    let at-strong-ones = at-ids-of .before in
+    let start = at-strong-ones .before .before .before in
+    let s = start .args .self in
+    let strong = at-strong-ones .strong-ones in
+    let ids = at-ids-of .ids-of in
     clustered s (strong .result) (strong .ensures) (ids .result) (ids .ensures) (c .labels-of .result) (c .labels-of .ensures)
 
 pub cluster-spec : {M : Type 1} → statement M

@@ -49,22 +49,29 @@ returns c =
     when-refused view (e .args .done) (ticked e) (e .args .t1) (not-true _ (c .if1 .taken))
 
 -- ---- the loop
+abbrev from-first : tie.After-first Inv-loop μ-loop → tie.Start Inv-loop μ-loop
+from-first c =
+    let at-with-point = c .before .before .before .before in
+    at-with-point .before .before .before .before
+
 abbrev came : tie.At-loop Inv-loop μ-loop → tie.Start Inv-loop μ-loop
-came c = c .before .before .before .before .before .before .before .before .before
+came c = from-first (c .before)
 
 loop-holds : tie.Need-loop-holds Inv-loop μ-loop
 loop-holds c =
-    let e = c .before .before .before .before .before .before .before .before in
-    let s = e .args .t1 in
-    let f = e .args .scan in
-    let few : f .count ≤ microsMost = e .pre in
+    let start = from-first c in
+    let s = start .args .t1 in
+    let f = start .args .scan in
+    let few : f .count ≤ microsMost = start .pre in
     let passing = starts (s .params .settings .lambda) (s .t) (f .ids) (f .count) (f .count) (s .links) (s .«link_count») (c .first .result)
-    (ids-room e) (omega (arith, few)) (links-room e) (c .first .ensures) in
-    (linked-first _, passing, links-room e)
+    (ids-room start) (omega (arith, few)) (links-room start) (c .first .ensures) in
+    (linked-first _, passing, links-room start)
 
 -- a step keeps what holds
 abbrev turn : tie.After-step Inv-loop μ-loop → tie.At-loop Inv-loop μ-loop
-turn c = c .before .before .before .before .before .before
+turn c =
+    let at-if2 = c .before .before .before in
+    at-if2 .before .before .before
 
 abbrev grown : tie.After-step Inv-loop μ-loop → List Link
 grown c = set (turn c .loop .self .links) (c .before .before .place .result) (c .step .result .link)
@@ -95,11 +102,13 @@ loop-again c =
 -- the loop leaves document 01's stream before its tick
 returns-2 : tie.Need-returns-2 Inv-loop μ-loop
 returns-2 c =
-    let at = c .before .before .before .before in
-    let k = at .loop in
-    let e = came at in
-    let p = at .before .before .before .before .before .with-point in
-    let done = not-false _ (at .before .before .before .before .before .before .before .before .if1 .left) in
+    let at-loop = c .before .before .before .before in
+    let at-with-point = at-loop .before .before .before .before .before in
+    let at-if1 = at-with-point .before .before .before in
+    let k = at-loop .loop in
+    let e = came at-loop in
+    let p = at-with-point .with-point in
+    let done = not-false _ (at-if1 .if1 .left) in
     let micros = ap (λ (q : Placed). q .micros) (p .ensures) in
     let next = ap (λ (q : Placed). q .«next_id») (p .ensures) in
     let links = ends _ _ _ _ _ _ _ (k .inv .1) (c .before .if2 .left) in
