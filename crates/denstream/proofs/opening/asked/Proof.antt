@@ -16,16 +16,20 @@ returns c =
 
 returns-2 : tie.Need-returns-2
 returns-2 c =
-    let p = c .before .before .before .before .before .args .settings in
-    let five = c .before .before .before .before .asked in
-    let asks = sym (c .before .before .before .is-open .ensures) ∙ not-false _ (c .before .before .if1 .left) in
+    let at-if1 = c .before .before in
+    let at-asked = at-if1 .before .before in
+    let p = at-asked .before .args .settings in
+    let five = at-asked .asked in
+    let asks = sym (at-if1 .before .is-open .ensures) ∙ not-false _ (at-if1 .if1 .left) in
     asked-of p (five .result) true true (five .ensures) asks (c .if2 .taken)
 
 returns-3 : tie.Need-returns-3
 returns-3 c =
-    let p = c .before .before .before .before .before .args .settings in
-    let five = c .before .before .before .before .asked in
-    let asks = sym (c .before .before .before .is-open .ensures) ∙ not-false _ (c .before .before .if1 .left) in
+    let at-if1 = c .before .before in
+    let at-asked = at-if1 .before .before in
+    let p = at-asked .before .args .settings in
+    let five = at-asked .asked in
+    let asks = sym (at-if1 .before .is-open .ensures) ∙ not-false _ (at-if1 .if1 .left) in
     asked-of p (five .result) true false (five .ensures) asks (c .if2 .left)
 
 pub asked-spec : {M : Type 1} → statement M

@@ -12,14 +12,18 @@ use Rattle.denstream.proofs.stream.DenStream.pruned.Tie as tie
 returns : tie.Need-returns
 unfolding heldIn
 returns c =
-    let e = c .before .before .before .before .before .before .before .before .before in
-    let s = e .args .self in
-    let np = c .before .before .before .before .before .before .before .potential-held in
-    let no = c .before .before .before .before .before .before .outliers-held in
-    let a = c .before .before .before .pruned in
-    let b = c .before .before .pruned2 in
-    let potential-room : length (s .potential) ≡ microsMost = sym (length-map (s .potential) _) ∙ e .good .0 .1 .1 .1 .1 .0 .1 .0 .1 in
-    let outliers-room : length (s .outliers) ≡ microsMost = sym (length-map (s .outliers) _) ∙ e .good .0 .1 .1 .1 .1 .1 .1 .0 .1 .0 .1 in
+    let at-pruned2 = c .before .before in
+    let at-pruned = at-pruned2 .before in
+    let at-outliers-held = at-pruned .before .before .before in
+    let at-potential-held = at-outliers-held .before in
+    let start = at-potential-held .before .before in
+    let s = start .args .self in
+    let np = at-potential-held .potential-held in
+    let no = at-outliers-held .outliers-held in
+    let a = at-pruned .pruned in
+    let b = at-pruned2 .pruned2 in
+    let potential-room : length (s .potential) ≡ microsMost = sym (length-map (s .potential) _) ∙ start .good .0 .1 .1 .1 .1 .0 .1 .0 .1 in
+    let outliers-room : length (s .outliers) ≡ microsMost = sym (length-map (s .outliers) _) ∙ start .good .0 .1 .1 .1 .1 .1 .1 .0 .1 .0 .1 in
     ap (holding (view s))
     (prunes (dimOf s) (s .potential) (s .«potential_count») (s .outliers) (s .«outlier_count») potential-room outliers-room
     (np .result) (np .ensures) (no .result) (no .ensures) (s .params) (s .t)

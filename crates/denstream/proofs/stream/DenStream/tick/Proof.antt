@@ -20,18 +20,22 @@ told c = c .tick .ensures ∙ ap (λ (q : Clock). tickedOf q (c .before .before 
 returns : tie.Need-returns
 unfolding heldIn
 returns c =
-    let k = c .before .before .before .before .before .before .before in
-    let a = k .before .before .before .args in
-    let due = c .before .before .before .before .before .if1 .taken in
-    ticked denstream (view (a .self)) (a .near) (tickTold (k .tick .result)) (told k) true (view (c .pruned .result)) due (c .pruned .ensures)
+    let at-if1 = c .before .before .before .before .before in
+    let at-tick = at-if1 .before .before in
+    let start = at-tick .before .before .before in
+    let a = start .args in
+    let due = at-if1 .if1 .taken in
+    ticked denstream (view (a .self)) (a .near) (tickTold (at-tick .tick .result)) (told at-tick) true (view (c .pruned .result)) due (c .pruned .ensures)
 
 returns-2 : tie.Need-returns-2
 unfolding heldIn
 returns-2 c =
-    let k = c .before .before .before .before .before .before in
-    let a = k .before .before .before .args in
-    let still = c .before .before .before .before .if1 .left in
-    ticked denstream (view (a .self)) (a .near) (tickTold (k .tick .result)) (told k) false _ still refl
+    let at-if1 = c .before .before .before .before in
+    let at-tick = at-if1 .before .before in
+    let start = at-tick .before .before .before in
+    let a = start .args in
+    let still = at-if1 .if1 .left in
+    ticked denstream (view (a .self)) (a .near) (tickTold (at-tick .tick .result)) (told at-tick) false _ still refl
 
 pub tick-spec : {M : Type 1} → statement M
 tick-spec = tie.close (tie.spec (λ c κs. search needs) (λ c κs. search needs) (λ c κs. search needs) returns returns-2)

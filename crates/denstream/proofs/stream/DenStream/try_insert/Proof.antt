@@ -13,7 +13,9 @@ use Rattle.denstream.proofs.stream.DenStream.try_insert.Tie as tie
 
 -- the call; and what is known once the point is placed
 abbrev came : tie.After-place → tie.Start
-came c = c .before .before .before .before .before .before .before
+came c =
+    let at-padded = c .before .before .before in
+    at-padded .before .before .before .before
 
 met :
     (c : tie.After-place) →
