@@ -8,8 +8,10 @@ use Rattle.whole_runs.proofs.db.dbstream_run.Tie as tie
 
 returns : tie.Need-returns
 returns c =
-    let a = c .before .before .before .before .before .before .before .before .before .before .args in
-    let run = c .before .before .before .before .before .dbstream-session in
+    let at-dbstream-session = c .before .before .before .before .before in
+    let start = at-dbstream-session .before .before .before .before .before in
+    let a = start .args in
+    let run = at-dbstream-session .dbstream-session in
     read-out clusterOf dbstreamFigures (a .rounds) _ _ _ _ (run .ensures .0) (c .before .clustered .ensures) (c .figures-of .ensures)
 
 pub dbstream-run-spec : {M : Type 1} → statement M

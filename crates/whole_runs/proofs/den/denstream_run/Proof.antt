@@ -8,8 +8,10 @@ use Rattle.whole_runs.proofs.den.denstream_run.Tie as tie
 
 returns : tie.Need-returns
 returns c =
-    let a = c .before .before .before .before .before .before .before .before .before .before .args in
-    let run = c .before .before .before .before .before .denstream-session in
+    let at-denstream-session = c .before .before .before .before .before in
+    let start = at-denstream-session .before .before .before .before .before in
+    let a = start .args in
+    let run = at-denstream-session .denstream-session in
     read-out clusterOf denstreamFigures (a .rounds) _ _ _ _ (run .ensures .0) (c .before .clustered .ensures) (c .figures-of .ensures)
 
 pub denstream-run-spec : {M : Type 1} → statement M

@@ -27,19 +27,27 @@ add-alarms c =
 
 loop-again : tie.Need-loop-again Inv-loop μ-loop
 loop-again c =
-    let a = c .before .before .before .before .before .before .before .before .args in
-    let l = c .before .before .before .before .before .loop in
-    let u = c .before .before .update in
+    let at-update = c .before .before in
+    let at-test = at-update .before .before in
+    let at-loop = at-test .before in
+    let start = at-loop .before .before .before in
+    let a = start .args in
+    let l = at-loop .loop in
+    let u = at-update .update in
     going-on (a .values .now) (newOf (a .delta)) (view (l .w)) (view (u .result .window)) (l .alarms) (l .i) (c .ring .result) _
-    (l .inv) (c .before .before .before .before .loop-test .taken)
+    (l .inv) (at-test .loop-test .taken)
     (ap (λ (o : Outcome). o .window) (u .ensures .0)) (c .ring .ensures ∙ ap (λ (o : Outcome). cond (o .alarm) 1 0) (u .ensures .0))
 
 returns : tie.Need-returns Inv-loop μ-loop
 returns c =
-    let a = c .before .before .before .before .before .before .before .args in
-    let l = c .before .before .before .before .loop in
-    let e = going-end (a .values .now) (newOf (a .delta)) (view (l .w)) (l .alarms) (l .i) (l .inv) (c .before .before .before .loop-test .left) in
-    let width = c .before .before .width .ensures in
+    let at-width = c .before .before in
+    let at-test = at-width .before in
+    let at-loop = at-test .before in
+    let start = at-loop .before .before .before in
+    let a = start .args in
+    let l = at-loop .loop in
+    let e = going-end (a .values .now) (newOf (a .delta)) (view (l .w)) (l .alarms) (l .i) (l .inv) (at-test .loop-test .left) in
+    let width = at-width .width .ensures in
     run-figures (a .values .now) (newOf (a .delta)) (view (l .w)) _ _ _ _ e width (c .before .mean .ensures) (c .variance .ensures)
 
 pub window-run-spec : {M : Type 1} → statement M
