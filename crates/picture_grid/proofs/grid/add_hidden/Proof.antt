@@ -11,7 +11,9 @@ returns c =
     rw (eq-eqb _ _ (c .if1 .taken)) (nothing text (roomy text _ (c .before .good .0 .1 .1 .0 .1 .0 .1)))
 
 returns-2 : tie.Need-returns-2
-returns-2 c = rw (ne-eqb _ _ (c .before .before .before .before .before .if1 .left)) (search both)
+returns-2 c =
+    let at-if1 = c .before .before .before .before .before in
+    rw (ne-eqb _ _ (at-if1 .if1 .left)) (search both)
 
 pub add-hidden-spec : {M : Type 1} → statement M
 add-hidden-spec =

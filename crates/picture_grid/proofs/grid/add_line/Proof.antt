@@ -23,8 +23,10 @@ loop-holds c =
 
 loop-again : tie.Need-loop-again Inv-loop μ-loop
 loop-again c =
-    let a = c .before .before .before .before .before .args in
-    let l = c .before .before .before .before .loop in
+    let at-loop = c .before .before .before .before in
+    let start = at-loop .before in
+    let a = start .args in
+    let l = at-loop .loop in
     let cell = worded (ap (λ (m : ℕ). m ∷ []) (c .before .framed .ensures)) (c .«add-byte» .ensures) in
     (omega arith, more (cellText (a .frame .now) (a .t3) (a .row)) (l .i) (l .inv .1) cell)
 
