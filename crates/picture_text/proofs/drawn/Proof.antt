@@ -15,12 +15,18 @@ use Rattle.picture_text.proofs.drawn.Tie as tie
 
 returns : tie.Need-returns
 returns c =
-    let s = c .before .before .before .before .before .before .before .before .before .before .before .before .before .before .before .args .stream in
-    let u = c .before .before .before .before .before .before .before .before .before .before .before .before .before .before .cluster in
-    let f = c .before .before .before .before .before .before .before .before .before .before .«micro-stats» in
-    let l = c .before .before .before .before .before .labels2 in
-    let d = c .before .before .before .drift in
-    let n = c .before .before .«micro-count» in
+    let at-micro-count = c .before .before in
+    let at-drift = at-micro-count .before in
+    let at-labels2 = at-drift .before .before in
+    let at-micro-stats = at-labels2 .before .before .before .before .before in
+    let at-cluster = at-micro-stats .before .before .before .before in
+    let start = at-cluster .before in
+    let s = start .args .stream in
+    let u = at-cluster .cluster in
+    let f = at-micro-stats .«micro-stats» in
+    let l = at-labels2 .labels2 in
+    let d = at-drift .drift in
+    let n = at-micro-count .«micro-count» in
     let figures = statisticsTold (f .result) (f .last .1 .0) (f .last .1 .1 .0) (f .last .1 .1 .1 .0) in
     let labels = labelsTold (l .result) (l .last .1 .0) in
     let page = drawing (view s) (view (u .result)) (n .result) figures labels (d .result) (u .ensures) (n .ensures) (f .ensures) (l .ensures) (d .ensures) in

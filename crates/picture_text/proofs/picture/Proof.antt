@@ -9,9 +9,12 @@ use Rattle.picture_text.proofs.picture.Tie as tie
 
 returns : tie.Need-returns
 returns c =
-    let lent = c .before .before .before .before .before .before .before .args .output .now in
-    let t = c .before .before .before .before .«text-of» in
-    let w = c .before .before .write .ensures in
+    let at-write = c .before .before in
+    let at-text-of = at-write .before .before in
+    let start = at-text-of .before .before .before in
+    let lent = start .args .output .now in
+    let t = at-text-of .«text-of» in
+    let w = at-write .write .ensures in
     w ∙ ap (λ (text : List ℕ). writeOf text lent) (t .ensures)
 
 pub picture-spec : {M : Type 1} → statement M

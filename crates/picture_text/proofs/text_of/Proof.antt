@@ -29,11 +29,15 @@ returns-2 c =
 
 returns-3 : tie.Need-returns-3
 returns-3 c =
-    let s = c .before .before .before .before .before .«session-of» in
-    let input = c .before .before .before .before .before .before .before .args .input .now in
-    let dim = sym (c .before .before .dim .ensures) ∙ c .before .if2 .left in
+    let at-dim = c .before .before in
+    let at-if1 = at-dim .before .before in
+    let at-session-of = at-if1 .before in
+    let start = at-session-of .before .before in
+    let s = at-session-of .«session-of» in
+    let input = start .args .input .now in
+    let dim = sym (at-dim .dim .ensures) ∙ c .before .if2 .left in
     c .drawn .ensures
-    ∙ ap (take room) (three input (ranTold (s .result)) (s .ensures) (c .before .before .before .before .if1 .left) dim)
+    ∙ ap (take room) (three input (ranTold (s .result)) (s .ensures) (at-if1 .if1 .left) dim)
     ∙ take-all room (pictureText input) (never-cut input .is)
 
 pub text-of-spec : {M : Type 1} → statement M
