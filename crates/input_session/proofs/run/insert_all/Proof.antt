@@ -30,33 +30,46 @@ point-requires c κs =
     (omega arith, omega (arith, one-point (c .before .loop .left) (a .dim * 8) (c .loop-test .taken)))
 
 slice-aggregate-try-insert : tie.Need-slice-aggregate-try-insert Inv-loop μ-loop
-slice-aggregate-try-insert c = sym (length-take-le (c .before .before .before .before .before .args .dim) (c .before .point .result) (search needs))
+slice-aggregate-try-insert c =
+    let start = c .before .before .before .before .before in
+    sym (length-take-le (start .args .dim) (c .before .point .result) (search needs))
 
 returns : tie.Need-returns Inv-loop μ-loop
 returns c =
-    let r = c .before .before .before .try-insert in
-    let x = c .before .before .before .before .before in
-    let some = x .before .loop-test .taken in
-    let l = x .before .before .loop in
-    let a = x .before .before .before .before .args in
-    stops (l .left) (a .dim) (a .bytes .now) (l .at) some (view (l .s)) _ (x .point .ensures) (insertedTold (r .result)) (r .ensures .0)
+    let at-try-insert = c .before .before .before in
+    let at-point = at-try-insert .before .before in
+    let at-test = at-point .before in
+    let at-loop = at-test .before in
+    let start = at-loop .before .before in
+    let r = at-try-insert .try-insert in
+    let some = at-test .loop-test .taken in
+    let l = at-loop .loop in
+    let a = start .args in
+    stops (l .left) (a .dim) (a .bytes .now) (l .at) some (view (l .s)) _ (at-point .point .ensures) (insertedTold (r .result)) (r .ensures .0)
     (λ z. c .if1 .taken (c .before .number .ensures ∙ z))
     ∙ l .inv .1
 
 add-at : tie.Need-add-at Inv-loop μ-loop
 add-at c =
-    let t = c .before .before .before .before .before .before in
-    omega (arith, one-point (t .before .loop .left) (t .before .before .before .args .dim * 8) (t .loop-test .taken))
+    let at-test = c .before .before .before .before .before .before in
+    let at-loop = at-test .before in
+    let start = at-loop .before .before in
+    omega (arith, one-point (at-loop .loop .left) (start .args .dim * 8) (at-test .loop-test .taken))
 
 loop-again : tie.Need-loop-again Inv-loop μ-loop
 loop-again c =
-    let r = c .before .before .before .try-insert in
-    let x = c .before .before .before .before .before in
-    let some = x .before .loop-test .taken in
-    let l = x .before .before .loop in
-    let a = x .before .before .before .before .args in
+    let at-try-insert = c .before .before .before in
+    let at-point = at-try-insert .before .before in
+    let at-test = at-point .before in
+    let at-loop = at-test .before in
+    let start = at-loop .before .before in
+    let r = at-try-insert .try-insert in
+    let some = at-test .loop-test .taken in
+    let l = at-loop .loop in
+    let a = start .args in
     let done = sym (c .before .number .ensures) ∙ c .if1 .left in
-    let next = goes-on (l .left) (a .dim) (a .bytes .now) (l .at) some (view (l .s)) _ (x .point .ensures) (insertedTold (r .result)) (r .ensures .0) done in
+    let next = goes-on (l .left) (a .dim) (a .bytes .now) (l .at) some (view (l .s)) _ (at-point .point .ensures)
+    (insertedTold (r .result)) (r .ensures .0) done in
     (omega (arith, one-point (l .left) (a .dim * 8) some), next ∙ l .inv .1)
 
 returns-2 : tie.Need-returns-2 Inv-loop μ-loop
