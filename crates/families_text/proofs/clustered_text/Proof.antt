@@ -11,11 +11,16 @@ use Rattle.families_text.proofs.clustered_text.Tie as tie
 
 returns : tie.Need-returns
 returns c =
-    let s = c .before .before .before .before .before .before .before .before .before .args in
-    let u = c .before .before .before .before .before .before .before .before .cluster in
-    let n = c .before .before .before .before .before .before .before .micro-count in
-    let ids = c .before .before .before .before .before .ids-of in
-    let labels = c .before .before .before .labels2 in
+    let at-labels2 = c .before .before .before in
+    let at-ids-of = at-labels2 .before .before in
+    let at-micro-count = at-ids-of .before .before in
+    let at-cluster = at-micro-count .before in
+    let start = at-cluster .before in
+    let s = start .args in
+    let u = at-cluster .cluster in
+    let n = at-micro-count .micro-count in
+    let ids = at-ids-of .ids-of in
+    let labels = at-labels2 .labels2 in
     let report = c .before .drift in
     let places : length (u .result .micros) ≡ microsMost = sym (length-map (u .result .micros) _) ∙ u .ok .1 .1 .1 .1 .1 .0 .1 .0 .1 in
     c .listing .ensures

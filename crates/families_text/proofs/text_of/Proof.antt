@@ -13,9 +13,12 @@ returns c =
 
 returns-2 : tie.Need-returns-2
 returns-2 c =
-    let s = c .before .before .before .«session-of» in
-    let bytes = c .before .before .before .before .before .args .input .now in
-    c .«clustered-text» .ensures ∙ clustered bytes (ranTold (s .result)) (s .ensures) (c .before .before .if1 .left)
+    let at-if1 = c .before .before in
+    let at-session-of = at-if1 .before in
+    let start = at-session-of .before .before in
+    let s = at-session-of .«session-of» in
+    let bytes = start .args .input .now in
+    c .«clustered-text» .ensures ∙ clustered bytes (ranTold (s .result)) (s .ensures) (at-if1 .if1 .left)
 
 pub text-of-spec : {M : Type 1} → statement M
 text-of-spec =
