@@ -6,9 +6,15 @@ use borrow.Author.Needs.{needs}
 use Rattle.families_lines.proofs.add_last.Statement.{statement}
 use Rattle.families_lines.proofs.add_last.Tie as tie
 
+-- the call, from the window's word
+abbrev came : tie.After-add2 → tie.Start
+came c =
+    let at-add = c .before .before .before in
+    at-add .before .before
+
 returns : tie.Need-returns
 returns c =
-    let start = c .before .before .before .before .before .before .before .before in
+    let start = came (c .before .before .before) in
     (search both, last-within (start .args .report) (omega arith) (omega arith))
 
 pub add-last-spec : {M : Type 1} → statement M
