@@ -51,7 +51,8 @@ returns c =
 
 add-at : tie.Need-add-at Inv-loop μ-loop
 add-at c =
-    let at-test = c .before .before .before .before .before .before in
+    let at-try-insert = c .before .before .before in
+    let at-test = at-try-insert .before .before .before in
     let at-loop = at-test .before in
     let start = at-loop .before .before in
     omega (arith, one-point (at-loop .loop .left) (start .args .dim * 8) (at-test .loop-test .taken))
