@@ -72,12 +72,101 @@ returns c =
     let start = at-loop .before in
     (at-loop .loop .inv .room, walk-ends _ _ _ _ _ (buckets-room start) (classes-room start) (start .pre) (at-loop .loop .inv) (omega arith))
 
+-- ---- what the search answers; each by its name, since all in one place take twice the memory
+mul-new : tie.Need-mul-new Inv-loop2 μ-loop2 Inv-loop μ-loop
+mul-new c = search needs
+
+element-set-from-new : tie.Need-element-set-from-new Inv-loop2 μ-loop2 Inv-loop μ-loop
+element-set-from-new c = search needs
+
+element-write-self : tie.Need-element-write-self Inv-loop2 μ-loop2 Inv-loop μ-loop
+element-write-self c = search needs
+
+add-self : tie.Need-add-self Inv-loop2 μ-loop2 Inv-loop μ-loop
+add-self c = search needs
+
+sub-i : tie.Need-sub-i Inv-loop2 μ-loop2 Inv-loop μ-loop
+sub-i c = search needs
+
+element-copy-out-class : tie.Need-element-copy-out-class Inv-loop2 μ-loop2 Inv-loop μ-loop
+element-copy-out-class c = search needs
+
+element-copy-out-if1 : tie.Need-element-copy-out-if1 Inv-loop2 μ-loop2 Inv-loop μ-loop
+element-copy-out-if1 c = search needs
+
+loop-less : tie.Need-loop-less Inv-loop2 μ-loop2 Inv-loop μ-loop
+loop-less c = search needs
+
+add-if2 : tie.Need-add-if2 Inv-loop2 μ-loop2 Inv-loop μ-loop
+add-if2 c = search needs
+
+mul-older : tie.Need-mul-older Inv-loop2 μ-loop2 Inv-loop μ-loop
+mul-older c = search needs
+
+element-copy-out-older : tie.Need-element-copy-out-older Inv-loop2 μ-loop2 Inv-loop μ-loop
+element-copy-out-older c = search needs
+
+mul-newer : tie.Need-mul-newer Inv-loop2 μ-loop2 Inv-loop μ-loop
+mul-newer c = search needs
+
+element-copy-out-newer : tie.Need-element-copy-out-newer Inv-loop2 μ-loop2 Inv-loop μ-loop
+element-copy-out-newer c = search needs
+
+merged-requires : tie.Need-merged-requires Inv-loop2 μ-loop2 Inv-loop μ-loop
+merged-requires c κs = search needs
+
+mul-t30 : tie.Need-mul-t30 Inv-loop2 μ-loop2 Inv-loop μ-loop
+mul-t30 c = search needs
+
+element-set-from-self : tie.Need-element-set-from-self Inv-loop2 μ-loop2 Inv-loop μ-loop
+element-set-from-self c = search needs
+
+next-class-requires : tie.Need-next-class-requires Inv-loop2 μ-loop2 Inv-loop μ-loop
+next-class-requires c κs = search needs
+
+element-write-self-2 : tie.Need-element-write-self-2 Inv-loop2 μ-loop2 Inv-loop μ-loop
+element-write-self-2 c = search needs
+
+sub-m : tie.Need-sub-m Inv-loop2 μ-loop2 Inv-loop μ-loop
+sub-m c = search needs
+
+add-p : tie.Need-add-p Inv-loop2 μ-loop2 Inv-loop μ-loop
+add-p c = search needs
+
+mul-b : tie.Need-mul-b Inv-loop2 μ-loop2 Inv-loop μ-loop
+mul-b c = search needs
+
+element-copy-out-b : tie.Need-element-copy-out-b Inv-loop2 μ-loop2 Inv-loop μ-loop
+element-copy-out-b c = search needs
+
+element-copy-out-c : tie.Need-element-copy-out-c Inv-loop2 μ-loop2 Inv-loop μ-loop
+element-copy-out-c c = search needs
+
+mul-b-2 : tie.Need-mul-b-2 Inv-loop2 μ-loop2 Inv-loop μ-loop
+mul-b-2 c = search needs
+
+element-set-from-b : tie.Need-element-set-from-b Inv-loop2 μ-loop2 Inv-loop μ-loop
+element-set-from-b c = search needs
+
+element-write-self-3 : tie.Need-element-write-self-3 Inv-loop2 μ-loop2 Inv-loop μ-loop
+element-write-self-3 c = search needs
+
+loop2-less : tie.Need-loop2-less Inv-loop2 μ-loop2 Inv-loop μ-loop
+loop2-less c = search needs
+
+loop-less-2 : tie.Need-loop-less-2 Inv-loop2 μ-loop2 Inv-loop μ-loop
+loop-less-2 c = search needs
+
+add-k : tie.Need-add-k Inv-loop2 μ-loop2 Inv-loop μ-loop
+add-k c = search needs
+
+loop-less-3 : tie.Need-loop-less-3 Inv-loop2 μ-loop2 Inv-loop μ-loop
+loop-less-3 c = search needs
+
 pub push-bucket-spec : {M : Type 1} → statement M
 push-bucket-spec =
     tie.close
-    (tie.spec Inv-loop2 μ-loop2 Inv-loop μ-loop (λ c. search needs) (λ c. search needs) (λ c. search needs) (λ c. search needs) loop-holds
-    (λ c. search needs) (λ c. search needs) (λ c. search needs) (λ c. search needs) loop-again (λ c. search needs) (λ c. search needs)
-    (λ c. search needs) (λ c. search needs) (λ c. search needs) (λ c κs. search needs) (λ c. search needs) (λ c. search needs)
-    (λ c κs. search needs) (λ c. search needs) (λ c. search needs) loop2-holds (λ c. search needs) (λ c. search needs) (λ c. search needs)
-    (λ c. search needs) (λ c. search needs) (λ c. search needs) (λ c. search needs) (λ c. search needs) loop2-again (λ c. search needs)
-    loop-again-2 (λ c. search needs) (λ c. search needs) loop-again-3 returns)
+    (tie.spec Inv-loop2 μ-loop2 Inv-loop μ-loop mul-new element-set-from-new element-write-self add-self loop-holds sub-i element-copy-out-class
+    element-copy-out-if1 loop-less loop-again add-if2 mul-older element-copy-out-older mul-newer element-copy-out-newer merged-requires mul-t30
+    element-set-from-self next-class-requires element-write-self-2 sub-m loop2-holds add-p mul-b element-copy-out-b element-copy-out-c mul-b-2
+    element-set-from-b element-write-self-3 loop2-less loop2-again loop-less-2 loop-again-2 add-k loop-less-3 loop-again-3 returns)

@@ -19,6 +19,12 @@ Inv-loop a b n end uf₀ k₀ uf k = (Sound uf) × (joinAll n uf (drop k (pairsO
 abbrev μ-loop : tie.MeasureT-loop
 μ-loop a b n end uf₀ k₀ uf k = end - k
 
+cut-requires : tie.Need-cut-requires Inv-loop μ-loop
+cut-requires c κs = search needs
+
+new-requires : tie.Need-new-requires Inv-loop μ-loop
+new-requires c κs = search needs
+
 loop-holds : tie.Need-loop-holds Inv-loop μ-loop
 loop-holds c =
     let a = c .before .before .before .before .args in
@@ -74,5 +80,5 @@ returns c =
 pub joined-spec : {M : Type 1} → statement M
 joined-spec =
     tie.close
-    (tie.spec Inv-loop μ-loop (λ c κs. search needs) (λ c κs. search needs) loop-holds mul-join shared-slice-read-join mul-join-2
-    shared-slice-read-join-2 join-requires add-k loop-less loop-again returns)
+    (tie.spec Inv-loop μ-loop cut-requires new-requires loop-holds mul-join shared-slice-read-join mul-join-2 shared-slice-read-join-2 join-requires
+    add-k loop-less loop-again returns)

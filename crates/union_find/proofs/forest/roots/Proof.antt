@@ -15,6 +15,9 @@ Inv-loop a b n parent₀ roots₀ i₀ parent roots i = Seeking parent₀ parent
 abbrev μ-loop : tie.MeasureT-loop
 μ-loop a b n parent₀ roots₀ i₀ parent roots i = places - i
 
+cut-requires : tie.Need-cut-requires Inv-loop μ-loop
+cut-requires c κs = search needs
+
 joined-requires : tie.Need-joined-requires Inv-loop μ-loop
 joined-requires c κs = omega arith
 
@@ -26,6 +29,18 @@ loop-holds c =
 
 find-requires : tie.Need-find-requires Inv-loop μ-loop
 find-requires c κs = (c .before .before .loop .inv .ranked, omega arith)
+
+mul-roots : tie.Need-mul-roots Inv-loop μ-loop
+mul-roots c = search needs
+
+array-write-roots : tie.Need-array-write-roots Inv-loop μ-loop
+array-write-roots c = search needs
+
+add-i : tie.Need-add-i Inv-loop μ-loop
+add-i c = search needs
+
+loop-less : tie.Need-loop-less Inv-loop μ-loop
+loop-less c = search needs
 
 loop-again : tie.Need-loop-again Inv-loop μ-loop
 loop-again c =
@@ -50,5 +65,4 @@ returns c =
 pub roots-spec : {M : Type 1} → statement M
 roots-spec =
     tie.close
-    (tie.spec Inv-loop μ-loop (λ c κs. search needs) joined-requires loop-holds find-requires (λ c. search needs) (λ c. search needs)
-    (λ c. search needs) (λ c. search needs) loop-again returns)
+    (tie.spec Inv-loop μ-loop cut-requires joined-requires loop-holds find-requires mul-roots array-write-roots add-i loop-less loop-again returns)

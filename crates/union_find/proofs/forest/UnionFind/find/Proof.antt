@@ -17,11 +17,29 @@ abbrev μ-loop : tie.MeasureT-loop
 loop-holds : tie.Need-loop-holds Inv-loop μ-loop
 loop-holds c = turn-start (c .args .parent .now) (c .pre .0) (c .args .x) (c .pre .1)
 
+mul-if1 : tie.Need-mul-if1 Inv-loop μ-loop
+mul-if1 c = search needs
+
+element-copy-out-if1 : tie.Need-element-copy-out-if1 Inv-loop μ-loop
+element-copy-out-if1 c = search needs
+
+mul-up : tie.Need-mul-up Inv-loop μ-loop
+mul-up c = search needs
+
+element-copy-out-up : tie.Need-element-copy-out-up Inv-loop μ-loop
+element-copy-out-up c = search needs
+
 mul-grand : tie.Need-mul-grand Inv-loop μ-loop
 mul-grand c = omega (arith, turn-up (c .before .before .before .loop .inv))
 
 element-copy-out-grand : tie.Need-element-copy-out-grand Inv-loop μ-loop
 element-copy-out-grand c = turn-up (c .before .before .before .loop .inv)
+
+mul-parent : tie.Need-mul-parent Inv-loop μ-loop
+mul-parent c = search needs
+
+element-write-parent : tie.Need-element-write-parent Inv-loop μ-loop
+element-write-parent c = search needs
 
 loop-less : tie.Need-loop-less Inv-loop μ-loop
 loop-less c =
@@ -43,5 +61,5 @@ returns c =
 pub find-spec : {M : Type 1} → statement M
 find-spec =
     tie.close
-    (tie.spec Inv-loop μ-loop loop-holds (λ c. search needs) (λ c. search needs) (λ c. search needs) (λ c. search needs) mul-grand
-    element-copy-out-grand (λ c. search needs) (λ c. search needs) loop-less loop-again returns)
+    (tie.spec Inv-loop μ-loop loop-holds mul-if1 element-copy-out-if1 mul-up element-copy-out-up mul-grand element-copy-out-grand mul-parent
+    element-write-parent loop-less loop-again returns)
