@@ -1,15 +1,12 @@
--- The cleanup of links, by the creation numbers of the micro-clusters left; and that it is document 01's, by these micro-clusters.
-use mathlib.Core.Path.{_≡_, refl, ap, ap₂}
-use mathlib.Core.Bool.{Bool, not, _&&_, _||_, cond}
-use mathlib.Core.List.{List, [], _∷_, map}
+-- The cleanup of links, by the creation numbers of the micro-clusters left. Definitions only.
+use mathlib.Core.Bool.{Bool, not, _&&_}
+use mathlib.Core.List.{List}
 use lib.Dec.{eqb}
 use lib.Ieee.{Float, lt}
-use Rattle.lists.specs.Retain.{retain}
 use Rattle.model.specs.Any.{any}
 use Rattle.model.specs.declared.micro.MicroId.{MicroId}
-use Rattle.model.specs.declared.micro.DbMicro.{DbMicro}
 use Rattle.model.specs.declared.link.Link.{Link}
-use Rattle.model.specs.DbInsert.{fadedLink, idOf, isHeld, linkStays}
+use Rattle.model.specs.DbInsert.{fadedLink}
 
 -- the creation number is one of these
 abbrev pub isAmong : List MicroId → MicroId → Bool
@@ -18,21 +15,3 @@ isAmong ids id = any (λ (a : MicroId). eqb (a .0) (id .0)) ids
 -- "links that lost an end or faded below floor" go
 abbrev pub staysAmong : (lambda floor t : Float) → List MicroId → Link → Bool
 staysAmong lambda floor t ids l = isAmong ids (l .lo) && isAmong ids (l .hi) && not (lt (fadedLink lambda t l) floor)
-
--- a creation number is among those of the micro-clusters held where one of them is held
-pub among-held : (ms : List DbMicro) (id : MicroId) → isAmong (map idOf ms) id ≡ isHeld ms id
-unfolding any
-among-held [] id = refl
-among-held (m ∷ ms) id = ap (λ (b : Bool). eqb (m .id .0) (id .0) || b) (among-held ms id)
-
-module _ (lambda floor t : Float) (ms : List DbMicro) where
-  pub stays-among : (l : Link) → staysAmong lambda floor t (map idOf ms) l ≡ linkStays lambda floor t ms l
-  stays-among l =
-      ap₂ (λ (a b : Bool). a && b && not (lt (fadedLink lambda t l) floor)) (among-held ms (l .lo)) (among-held ms (l .hi))
-
-  -- the links that stay are document 01's
-  pub retain-among : (ls : List Link) → retain (staysAmong lambda floor t (map idOf ms)) ls ≡ retain (linkStays lambda floor t ms) ls
-  unfolding retain
-  retain-among [] = refl
-  retain-among (l ∷ ls) =
-      ap₂ (λ (b : Bool) (r : List Link). cond b (l ∷ r) r) (stays-among l) (retain-among ls)

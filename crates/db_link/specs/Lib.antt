@@ -3,3 +3,4 @@ pub mod Order
 pub mod Among
 pub mod Listed
 pub mod Between
+pub mod Laws

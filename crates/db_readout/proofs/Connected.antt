@@ -11,7 +11,8 @@ use Rattle.model.specs.DbInsert.{idOf}
 use Rattle.model.specs.DbCluster.{storedWeight, connectivityOf}
 use Rattle.db_micro.specs.Held.{cutTo}
 use Rattle.db_micro.specs.Laws.Views.{weight-view}
-use Rattle.db_link.specs.Between.{connectivityAmong, connectivity-view}
+use Rattle.db_link.specs.Between.{connectivityAmong}
+use Rattle.db_link.specs.Laws.Between.{connectivity-view}
 use Rattle.dbstream.specs.declared.stream.DbStream.{DbStream}
 use Rattle.dbstream.specs.View.{view, dimOf}
 

@@ -14,7 +14,8 @@ use Rattle.model.specs.DbInsert.{idOf, microStays, linkStays}
 use Rattle.model.specs.Stream.{holding, cleanedOf}
 use Rattle.model.specs.Dbstream.{dbstream}
 use Rattle.db_micro.specs.Held.{cutTo, held}
-use Rattle.db_link.specs.Among.{staysAmong, retain-among}
+use Rattle.db_link.specs.Among.{staysAmong}
+use Rattle.db_link.specs.Laws.Among.{retain-among}
 use Rattle.dbstream.specs.declared.stream.DbStream.{DbStream}
 use Rattle.dbstream.specs.View.{view, dimOf}
 

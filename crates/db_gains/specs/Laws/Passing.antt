@@ -26,7 +26,8 @@ use Rattle.db_gains.specs.declared.pass.Turn.{Turn}
 use Rattle.db_gains.specs.declared.pass.Step.{Step}
 use Rattle.db_gains.specs.Walk.{nextOf}
 use Rattle.db_gains.specs.Laws.Passed.{Absent}
-use Rattle.db_gains.specs.Factor.{Right, since-right}
+use Rattle.db_gains.specs.Factor.{Right}
+use Rattle.db_gains.specs.Laws.Factor.{since-right}
 use Rattle.db_gains.specs.Pass.{passFrom, placeOf, carriedOf, passedOf, insertedOf, fadedBy, gainedBy, gainedOf, lookedOf, turnOf, nextPass, stepOf}
 use Rattle.db_gains.specs.Laws.Walking.{Walking, pairsLeft, start, step-before, step-same, step-after, step-full, less-next, absent-at, absent-end, end}
 

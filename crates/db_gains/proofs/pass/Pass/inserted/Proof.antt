@@ -1,7 +1,7 @@
 -- `Pass::inserted` meets its contract. Assumes nothing.
 use mathlib.Core.Path.{sym, _∙_}
 use borrow.Author.Tests.{lt-ltb, le-ltb}
-use Rattle.db_gains.specs.Factor.{gain-by}
+use Rattle.db_gains.specs.Laws.Factor.{gain-by}
 use borrow.Author.Needs.{needs}
 use Rattle.db_gains.proofs.pass.Pass.inserted.Statement.{statement}
 use Rattle.db_gains.proofs.pass.Pass.inserted.Tie as tie

@@ -1,0 +1,3 @@
+-- What follows from the definitions, for proofs.
+pub mod Among
+pub mod Between
