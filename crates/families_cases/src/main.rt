@@ -1,4 +1,4 @@
-// The readings of document 01 for `families`, and inputs at the edges of its questions, each under a heading;
+// The examples of document 01 for `families`, and inputs at the edges of its questions, each under a heading;
 // the gate compares the text with the file stdout, which was written by hand from document 01.
 const STDOUT: i32 = 1;
 
@@ -73,7 +73,7 @@ fn set_head(room: &mut [u8; ROOM], dim: u64, r: u64, lambda: u64, alpha: u64, mi
 }
 
 // "Input 1, 1, 2^-10, 0.5, 1 and points 0, 1.5, 0.75", with an alpha, cut at n bytes.
-fn reading(heading: &[u8], alpha: u64, n: usize) {
+fn example(heading: &[u8], alpha: u64, n: usize) {
     let mut room = [0u8; ROOM];
     set_head(&mut room, 1, ONE, LAMBDA, alpha, ONE);
     set_word(&mut room, 5, NOUGHT);
@@ -82,12 +82,12 @@ fn reading(heading: &[u8], alpha: u64, n: usize) {
     case(heading, &room, n);
 }
 
-// Document 01's readings of `families`.
-fn readings() {
-    reading(b"alpha 0.5", HALF, THREE_POINTS);
-    reading(b"alpha 1", ONE, THREE_POINTS);
-    reading(b"alpha 0.999", UNDER_ONE, THREE_POINTS);
-    reading(b"two points", HALF, 56);
+// Document 01's examples of `families`.
+fn examples() {
+    example(b"alpha 0.5", HALF, THREE_POINTS);
+    example(b"alpha 1", ONE, THREE_POINTS);
+    example(b"alpha 0.999", UNDER_ONE, THREE_POINTS);
+    example(b"two points", HALF, 56);
 }
 
 // Settings with zeros after them, cut at n bytes.
@@ -174,7 +174,7 @@ fn many() {
 }
 
 fn main() {
-    readings();
+    examples();
     shortest();
     longest();
     out_of_range();
