@@ -1,3 +1,4 @@
+-- What the proofs of `src/` cite: the search for the nearest, labels, and the slices that statistics fill.
 pub mod Search
 pub mod Copies
 pub mod Counting

@@ -30,8 +30,8 @@ module _ (n : ℕ) (l : List Float) (k : n ≤ length l) where
   module _ (place : ℕ) (dist : Float) (i : ℕ) where
     turned :
         (t : Bool) → lt (getD l i nan) dist ≡ t → i < n →
-        foundOf (some (nearestFrom (λ (d : Float). d) (cond t (nearAt (λ (d : Float). d) i (getD l i nan)) (nearAt (λ (d : Float). d) place dist))
-        (i + 1) (rest n (i + 1) l)))
+        let at = nearAt (λ (d : Float). d) in
+        foundOf (some (nearestFrom (λ (d : Float). d) (cond t (at i (getD l i nan)) (at place dist)) (i + 1) (rest n (i + 1) l)))
         ≡ foundFrom place dist i (rest n i l)
     unfolding foundFrom nearestFrom
     turned t e h =

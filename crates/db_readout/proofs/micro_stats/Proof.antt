@@ -13,13 +13,15 @@ use Rattle.db_readout.proofs.micro_stats.Tie as tie
 
 returns : tie.Need-returns
 returns c =
-    let e = c .before .before .before .before .before .before in
-    let a = e .before .before .before .before .before .before .before .before .before .before .args in
+    let at-statistics = c .before .before .before .before .before .before in
+    let at-bodies = at-statistics .before .before .before .before in
+    let start = at-bodies .before .before .before .before .before .before in
+    let a = start .args in
     let s = a .stream in
-    let bs = e .before .before .before .before .bodies in
+    let bs = at-bodies .bodies in
     let p = s .params .settings in
     let d = min (p .dim) maxDim in
-    e .statistics .ensures
+    at-statistics .statistics .ensures
     ∙ ap (λ (l : List Body). statisticsRead (p .lambda) (s .t) l (a .centres .now) (a .weights .now) (a .radii .now))
     (bodies-are bodyOf (cutTo d) (p .dim) (λ m. refl) (s .count) (bs .result) (s .micros) (bs .ensures))
 

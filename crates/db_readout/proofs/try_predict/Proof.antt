@@ -15,9 +15,11 @@ use Rattle.db_readout.proofs.try_predict.Tie as tie
 
 returns : tie.Need-returns
 returns c =
-    let a = c .before .before .before .before .before .before .before .args in
+    let at-bodies = c .before .before .before in
+    let start = at-bodies .before .before .before .before in
+    let a = start .args in
     let s = a .stream in
-    let bs = c .before .before .before .bodies in
+    let bs = at-bodies .bodies in
     let p = s .params .settings in
     let d = min (p .dim) maxDim in
     c .predict .ensures

@@ -15,13 +15,16 @@ use Rattle.den_readout.proofs.potential_stats.Tie as tie
 returns : tie.Need-returns
 unfolding heldIn
 returns c =
-    let e = c .before .before .before .before .before .before in
-    let a = e .before .before .before .before .before .before .before .before .before .before .before .args in
+    let at-statistics = c .before .before .before .before .before .before in
+    let at-bodies = at-statistics .before .before .before .before in
+    let at-held = at-bodies .before .before in
+    let start = at-held .before .before .before .before .before in
+    let a = start .args in
     let s = a .stream in
-    let n = e .before .before .before .before .before .before .potential-held in
-    let bs = e .before .before .before .before .bodies in
+    let n = at-held .potential-held in
+    let bs = at-bodies .bodies in
     let d = min (s .params .settings .dim) maxDim in
-    e .statistics .ensures
+    at-statistics .statistics .ensures
     ∙ ap (λ (l : List Body). statisticsRead (s .params .settings .lambda) (s .t) l (a .centres .now) (a .weights .now) (a .radii .now))
     (bodies-are bodyOf (microIn d) (s .params .settings .dim) (λ m. refl) (n .result) (bs .result) (s .potential) (bs .ensures)
     ∙ ap (λ (h : ℕ). map bodyOf (seen d h (s .potential))) (n .ensures))

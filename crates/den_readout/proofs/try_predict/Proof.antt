@@ -16,10 +16,12 @@ use Rattle.den_readout.proofs.try_predict.Tie as tie
 returns : tie.Need-returns
 unfolding heldIn
 returns c =
-    let a = c .before .before .before .before .before .before .before .args in
+    let at-bodies = c .before .before in
+    let at-held = at-bodies .before .before in
+    let a = at-held .before .before .before .args in
     let s = a .stream in
-    let n = c .before .before .before .before .potential-held in
-    let bs = c .before .before .bodies in
+    let n = at-held .potential-held in
+    let bs = at-bodies .bodies in
     let d = min (s .params .settings .dim) maxDim in
     let labels = take (s .«label_count») (s .labels) in
     c .predict .ensures

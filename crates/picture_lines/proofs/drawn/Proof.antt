@@ -6,13 +6,14 @@ use Rattle.picture_lines.proofs.drawn.Statement.{statement}
 use Rattle.picture_lines.proofs.drawn.Tie as tie
 
 returns : tie.Need-returns
-returns c = rw (← c .before .before .before .before .cut .ensures, eq-eqb _ _ (c .before .before .before .if1 .taken)) (search both)
+returns c =
+    let at-if1 = c .before .before .before in
+    rw (← at-if1 .before .cut .ensures, eq-eqb _ _ (at-if1 .if1 .taken)) (search both)
 
 returns-2 : tie.Need-returns-2
 returns-2 c =
-    let few = c .before .before .before .before .before .before .cut .ensures in
-    let some = ne-eqb _ _ (c .before .before .before .before .before .if1 .left) in
-    rw (← few, some) (search both)
+    let at-if1 = c .before .before .before .before .before in
+    rw (← at-if1 .before .cut .ensures, ne-eqb _ _ (at-if1 .if1 .left)) (search both)
 
 pub drawn-spec : {M : Type 1} → statement M
 drawn-spec =

@@ -52,8 +52,10 @@ module _ {A : Type 0} (distance : A → Float) where
   nearer-stands false best new l h k = h
 
   from-stands :
-      (best : Near A) (i : ℕ) (ms l : List A) → StandsIn l best → i + length ms
-      ≡ length l → ((q : ℕ) → q < length ms → (z : A) → getD l (i + q) z ≡ getD ms q z) →
+      (best : Near A) (i : ℕ) (ms l : List A) →
+      StandsIn l best →
+      i + length ms ≡ length l →
+      ((q : ℕ) → q < length ms → (z : A) → getD l (i + q) z ≡ getD ms q z) →
       StandsIn l (nearestFrom distance best i ms)
   unfolding nearestFrom
   from-stands best i [] l h e f = h

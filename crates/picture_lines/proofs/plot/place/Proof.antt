@@ -6,10 +6,11 @@ use Rattle.picture_lines.proofs.plot.place.Tie as tie
 
 returns : tie.Need-returns
 returns c =
-    let a = c .before .before .before .before .before .before .before .args in
-    let low = c .before .before .before .before .before .before .low .ensures in
-    let step = c .before .before .before .before .step .ensures in
-    placed (a .up) (a .row) _ _ _ _ _ low step (c .before .before .upward .ensures) (c .before .cell .ensures) (c .cell2 .ensures)
+    let at-upward = c .before .before in
+    let at-step = at-upward .before .before in
+    let at-low = at-step .before .before in
+    let a = at-low .before .args in
+    placed (a .up) (a .row) _ _ _ _ _ (at-low .low .ensures) (at-step .step .ensures) (at-upward .upward .ensures) (c .before .cell .ensures) (c .cell2 .ensures)
 
 pub place-spec : {M : Type 1} → statement M
 place-spec =

@@ -10,15 +10,21 @@ returns c = rw (eq-eqb _ _ (c .before .before .if1 .taken)) (c .add .ensures)
 
 returns-2 : tie.Need-returns-2
 returns-2 c =
-    let some = ne-eqb _ _ (c .before .before .before .before .before .before .if1 .left) in
-    let rang = both (c .before .before .before .before .add2 .ensures) (c .before .before .before .«add-number» .ensures) in
-    rw (some, eq-eqb _ _ (c .before .before .if2 .taken)) (both rang (c .add3 .ensures))
+    let at-if2 = c .before .before in
+    let at-number = at-if2 .before in
+    let at-add2 = at-number .before in
+    let at-if1 = at-add2 .before .before in
+    let rang = both (at-add2 .add2 .ensures) (at-number .«add-number» .ensures) in
+    rw (ne-eqb _ _ (at-if1 .if1 .left), eq-eqb _ _ (at-if2 .if2 .taken)) (both rang (c .add3 .ensures))
 
 returns-3 : tie.Need-returns-3
 returns-3 c =
-    let some = ne-eqb _ _ (c .before .before .before .before .before .before .if1 .left) in
-    let rang = both (c .before .before .before .before .add2 .ensures) (c .before .before .before .«add-number» .ensures) in
-    rw (some, ne-eqb _ _ (c .before .before .if2 .left)) (both rang (c .add4 .ensures))
+    let at-if2 = c .before .before in
+    let at-number = at-if2 .before in
+    let at-add2 = at-number .before in
+    let at-if1 = at-add2 .before .before in
+    let rang = both (at-add2 .add2 .ensures) (at-number .«add-number» .ensures) in
+    rw (ne-eqb _ _ (at-if1 .if1 .left), ne-eqb _ _ (at-if2 .if2 .left)) (both rang (c .add4 .ensures))
 
 pub add-alarm-spec : {M : Type 1} → statement M
 add-alarm-spec =

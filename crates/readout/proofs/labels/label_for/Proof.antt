@@ -10,8 +10,8 @@ use Rattle.readout.proofs.labels.label_for.Tie as tie
 
 counted :
     (c : tie.After-cut2) →
-    Counted (c .before .before .args .distances) (c .before .before .args .n) (c .cut2 .result) (c .before .before .args .t3)
-    (c .before .before .args .label-count) (c .before .cut .result)
+    let a = c .before .before .args in
+    Counted (a .distances) (a .n) (c .cut2 .result) (a .t3) (a .label-count) (c .before .cut .result)
 counted c = record { end-is = c .cut2 .ensures; ds-long = omega arith; count-is = c .before .cut .ensures; labels-long = omega arith }
 
 returns : tie.Need-returns

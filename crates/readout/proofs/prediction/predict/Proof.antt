@@ -18,10 +18,13 @@ returns c =
 
 returns-2 : tie.Need-returns-2
 returns-2 c =
-    let a = c .before .before .before .before .before .before .args in
-    let w = c .before .before .before .before .cut in
-    let h = c .before .before .before .if1 .left in
-    let p = c .before .before .padded in
+    let at-padded = c .before .before in
+    let at-if1 = at-padded .before in
+    let at-cut = at-if1 .before in
+    let a = at-cut .before .before .args in
+    let w = at-cut .cut in
+    let h = at-if1 .if1 .left in
+    let p = at-padded .padded in
     predict-label (a .dim) (a .n) (w .result) (w .ensures) (a .radius2) (a .bodies) (take (a .label-count) (a .labels)) (a .x .now)
     (take (w .result) (p .result)) _ _ h
     (point-is (a .x .now) (p .result) (w .result) h (omega (arith, w .ensures)) (p .ensures)) (c .before .distances .ensures)

@@ -6,42 +6,56 @@ use Rattle.readout.proofs.Centres.{means-wide, few}
 use Rattle.readout.proofs.stats.statistics.Statement.{statement}
 use Rattle.readout.proofs.stats.statistics.Tie as tie
 
+-- the call, from the two counts that are cut to their places
+abbrev came : tie.After-cut2 → tie.Start
+came c =
+    let at-cut = c .before in
+    at-cut .before .before .before .before
+
 counted :
     (c : tie.After-cut2) →
-    Counted (c .before .before .before .before .before .args .bodies) (c .before .before .before .before .before .args .n) (c .before .cut .result)
-    (c .before .before .before .before .before .args .dim) (c .cut2 .result)
+    let a = came c .args in
+    Counted (a .bodies) (a .n) (c .before .cut .result) (a .dim) (c .cut2 .result)
 counted c =
-    let s = c .before .before .before .before .before in
-    record { end-is = c .before .cut .ensures; w-is = c .cut2 .ensures; wide = means-wide (s .args .bodies) _ (s .good .0 .1 .1); long = omega arith }
+    let start = came c in
+    record { end-is = c .before .cut .ensures; w-is = c .cut2 .ensures; wide = means-wide (start .args .bodies) _ (start .good .0 .1 .1); long = omega arith }
 
 mul-if1 : tie.Need-mul-if1
 mul-if1 c = omega (arith, few (c .before .cut .result) (c .cut2 .result) (omega arith) (omega arith))
 
 returns : tie.Need-returns
 returns c =
-    let a = c .before .before .before .before .before .before .args in
-    short-centres (a .lambda) (a .t) (counted (c .before)) (a .centres .now) (a .weights .now) (a .radii .now) (c .if1 .taken)
+    let at-cut2 = c .before in
+    let a = came at-cut2 .args in
+    short-centres (a .lambda) (a .t) (counted at-cut2) (a .centres .now) (a .weights .now) (a .radii .now) (c .if1 .taken)
 
 returns-2 : tie.Need-returns-2
 returns-2 c =
-    let a = c .before .before .before .before .before .before .before .args in
-    short-weights (a .lambda) (a .t) (counted (c .before .before)) (a .centres .now) (a .weights .now) (a .radii .now) (c .before .if1 .left) (c .if2 .taken)
+    let at-if1 = c .before in
+    let at-cut2 = at-if1 .before in
+    let a = came at-cut2 .args in
+    short-weights (a .lambda) (a .t) (counted at-cut2) (a .centres .now) (a .weights .now) (a .radii .now) (at-if1 .if1 .left) (c .if2 .taken)
 
 returns-3 : tie.Need-returns-3
 returns-3 c =
-    let a = c .before .before .before .before .before .before .before .before .args in
-    short-radii (a .lambda) (a .t) (counted (c .before .before .before)) (a .centres .now) (a .weights .now) (a .radii .now) (c .before .before .if1 .left)
-    (c .before .if2 .left) (c .if3 .taken)
+    let at-if2 = c .before in
+    let at-if1 = at-if2 .before in
+    let at-cut2 = at-if1 .before in
+    let a = came at-cut2 .args in
+    short-radii (a .lambda) (a .t) (counted at-cut2) (a .centres .now) (a .weights .now) (a .radii .now) (at-if1 .if1 .left) (at-if2 .if2 .left) (c .if3 .taken)
 
 returns-4 : tie.Need-returns-4
 returns-4 c =
-    let w = c .before .before .before .before in
-    let v = w .before .before .before .before .before in
-    let i = v .before .before in
-    let k = i .before .before .before in
-    let a = k .before .before .before .before .before .args in
-    all-written (a .lambda) (a .t) (counted k) (a .centres .now) (a .weights .now) (a .radii .now) (i .before .before .if1 .left) (i .before .if2 .left)
-    (i .if3 .left) _ _ _ (v .write-centres .ensures) (w .write-figures .ensures .0) (w .write-figures .ensures .1)
+    let at-figures = c .before .before .before .before in
+    let at-centres = at-figures .before .before .before .before .before in
+    let at-if3 = at-centres .before .before in
+    let at-if2 = at-if3 .before in
+    let at-if1 = at-if2 .before in
+    let at-cut2 = at-if1 .before in
+    let a = came at-cut2 .args in
+    let figures = at-figures .write-figures .ensures in
+    all-written (a .lambda) (a .t) (counted at-cut2) (a .centres .now) (a .weights .now) (a .radii .now)
+    (at-if1 .if1 .left) (at-if2 .if2 .left) (at-if3 .if3 .left) _ _ _ (at-centres .write-centres .ensures) (figures .0) (figures .1)
 
 pub statistics-spec : {M : Type 1} → statement M
 statistics-spec =

@@ -18,31 +18,37 @@ Inv-loop end lambda t weights₀ radii₀ bodies i₀ weights radii i =
 abbrev μ-loop : tie.MeasureT-loop
 μ-loop end lambda t weights₀ radii₀ bodies i₀ weights radii i = end - i
 
+-- the call, from the loop
+abbrev came : tie.At-loop Inv-loop μ-loop → tie.Start Inv-loop μ-loop
+came c = c .before .before .before
+
 loop-holds : tie.Need-loop-holds Inv-loop μ-loop
 loop-holds c = (omega arith, refl, refl)
 
 slice-write-weights : tie.Need-slice-write-weights Inv-loop μ-loop
 slice-write-weights c =
-    let s = c .before .before .before .before .before .before in
+    let at-test = c .before .before in
+    let l = at-test .before .loop in
+    let s = came (at-test .before) in
     let a = s .args in
-    let l = c .before .before .before .loop in
     figure-place (fadedWeight (a .lambda) (a .t)) (a .«end») (a .t1) (a .weights .now) (l .weights) (l .i) (omega arith) (s .pre .1) (l .inv .1)
-    (c .before .before .loop-test .taken)
+    (at-test .loop-test .taken)
 
 slice-write-radii : tie.Need-slice-write-radii Inv-loop μ-loop
 slice-write-radii c =
-    let s = c .before .before .before .before .before .before .before in
+    let at-test = c .before .before .before in
+    let l = at-test .before .loop in
+    let s = came (at-test .before) in
     let a = s .args in
-    let l = c .before .before .before .before .loop in
-    figure-place radiusOf (a .«end») (a .t1) (a .radii .now) (l .radii) (l .i) (omega arith) (s .pre .2) (l .inv .2)
-    (c .before .before .before .loop-test .taken)
+    figure-place radiusOf (a .«end») (a .t1) (a .radii .now) (l .radii) (l .i) (omega arith) (s .pre .2) (l .inv .2) (at-test .loop-test .taken)
 
 loop-again : tie.Need-loop-again Inv-loop μ-loop
 loop-again c =
-    let s = c .before .before .before .before .before .before .before in
+    let at-test = c .before .before .before in
+    let l = at-test .before .loop in
+    let s = came (at-test .before) in
     let a = s .args in
-    let l = c .before .before .before .before .loop in
-    let k = c .before .before .before .loop-test .taken in (
+    let k = at-test .loop-test .taken in (
       omega arith,
       figure-step (fadedWeight (a .lambda) (a .t)) (a .«end») (a .t1) (a .weights .now) (l .weights) (l .i) (omega arith) (s .pre .1) (l .inv .1)
           _ _ (c .before .faded-weight .ensures) k,
@@ -51,14 +57,14 @@ loop-again c =
 
 same-length : tie.Need-same-length Inv-loop μ-loop
 same-length c =
-    let s = c .before .before .before .before in
+    let s = came (c .before) in
     let a = s .args in
     let l = c .before .loop in
     figure-length (fadedWeight (a .lambda) (a .t)) (a .«end») (a .t1) (a .weights .now) (l .weights) (l .i) (omega arith) (s .pre .1) (l .inv .1) (l .inv .0)
 
 same-length-2 : tie.Need-same-length-2 Inv-loop μ-loop
 same-length-2 c =
-    let s = c .before .before .before .before in
+    let s = came (c .before) in
     let a = s .args in
     let l = c .before .loop in
     figure-length radiusOf (a .«end») (a .t1) (a .radii .now) (l .radii) (l .i) (omega arith) (s .pre .2) (l .inv .2) (l .inv .0)

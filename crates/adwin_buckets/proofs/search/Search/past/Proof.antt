@@ -8,14 +8,16 @@ use Rattle.adwin_buckets.proofs.search.Search.past.Tie as tie
 
 returns : tie.Need-returns
 returns c =
-    let a = c .before .before .before .before .before .before .before .args in
-    ap (λ (f : Bool). pastIf f (a .self) (a .b)) (sym (c .if1 .taken) ∙ c .before .fails .ensures)
+    let at-fails = c .before in
+    let a = at-fails .before .before .before .before .before .before .args in
+    ap (λ (f : Bool). pastIf f (a .self) (a .b)) (sym (c .if1 .taken) ∙ at-fails .fails .ensures)
 
 returns-2 : tie.Need-returns-2
 returns-2 c =
-    let k = c .before .before in
-    let a = k .before .before .before .before .before .before .before .args in
-    ap (λ (f : Bool). pastIf f (a .self) (a .b)) (sym (k .if1 .left) ∙ k .before .fails .ensures)
+    let at-if1 = c .before .before in
+    let at-fails = at-if1 .before in
+    let a = at-fails .before .before .before .before .before .before .args in
+    ap (λ (f : Bool). pastIf f (a .self) (a .b)) (sym (at-if1 .if1 .left) ∙ at-fails .fails .ensures)
 
 pub past-spec : {M : Type 1} → statement M
 past-spec = tie.close (tie.spec (λ c κs. search needs) (λ c. search needs) (λ c. search needs) returns returns-2)
