@@ -57,9 +57,8 @@ buckets-are (suc n) (c ∷ cs) (b ∷ bs) h = ap (λ (l : List Bucket). b ∷ l)
 -- a removal's step in both arrays
 pub removed-both :
     (n i : ℕ) (cs : List ℕ) (bs : List Bucket) (d : Bucket) → i + 1 < n → n ≤ length bs → length cs ≡ length bs →
-    take (i + 1) (classed (set cs i (getD cs (i + 1) 0)) (set bs i (getD bs (i + 1) d))) ++ rest n (i + 1 + 1)
-    (classed (set cs i (getD cs (i + 1) 0)) (set bs i (getD bs (i + 1) d)))
-    ≡ take i (classed cs bs) ++ rest n (i + 1) (classed cs bs)
+    let moved = classed (set cs i (getD cs (i + 1) 0)) (set bs i (getD bs (i + 1) d)) in
+    take (i + 1) moved ++ rest n (i + 1 + 1) moved ≡ take i (classed cs bs) ++ rest n (i + 1) (classed cs bs)
 removed-both n i cs bs d h k e =
     let w : n ≤ length (classed cs bs) = omega (arith, classed-length cs bs e) in
     rw (classed-set cs bs i (getD cs (i + 1) 0) (getD bs (i + 1) d) e)

@@ -48,9 +48,14 @@ lessened w gone v = record {
 
 -- the gap at the oldest place has closed in s
 pub dropped-is :
-    (a : Adwin) (d : Bucket) (v : Float) (m : ℕ) (s : Adwin) (q : ℕ) → length (a .buckets) ≡ places → length (a .classes) ≡ places → 0 < a .count →
-    v ≡ varianceWithout (a .width) (a .total) (a .variance) (getD (a .buckets) 0 d) → Closing a 0 m s q → m ≤ q → lessened (view (counting s m))
-    (getD (a .buckets) 0 d) v ≡ oldestDropped (view a)
+    (a : Adwin) (d : Bucket) (v : Float) (m : ℕ) (s : Adwin) (q : ℕ) →
+    length (a .buckets) ≡ places →
+    length (a .classes) ≡ places →
+    0 < a .count →
+    v ≡ varianceWithout (a .width) (a .total) (a .variance) (getD (a .buckets) 0 d) →
+    Closing a 0 m s q →
+    m ≤ q →
+    lessened (view (counting s m)) (getD (a .buckets) 0 d) v ≡ oldestDropped (view a)
 dropped-is a d v m s q b k h e c l =
     let gone = getD (a .buckets) 0 d in
     let w = withHeld (view a) (drop 1 (heldOf a)) in
@@ -142,8 +147,12 @@ or-false false = refl
 
 -- one more is dropped
 pub search-goes-on :
-    (u : Window) (s : Adwin) (answer : Verdict) (r : Adwin) → Searching u s answer → mustDropIn (view s) ≡ true → r .count + 1 ≡ s .count → view r
-    ≡ oldestDropped (view s) → Searching u r Alarm
+    (u : Window) (s : Adwin) (answer : Verdict) (r : Adwin) →
+    Searching u s answer →
+    mustDropIn (view s) ≡ true →
+    r .count + 1 ≡ s .count →
+    view r ≡ oldestDropped (view s) →
+    Searching u r Alarm
 unfolding shrunk
 search-goes-on u s answer r c h n e =
     let z : numberOf answer ≡ 0 = ap (λ (o : Outcome). o .refusal) (c .left) in

@@ -89,9 +89,14 @@ module _ (a : Adwin) (n : ℕ) (s : Adwin) (i k : ℕ) (w : Carrying a n s i k) 
 
       -- over the cap: the two at j and j + 1 become one of the next class, and the gap has closed in t
       pub walk-merges :
-          cap < k + 2 → (b : Bucket) (c : ℕ) → b ≡ mergedOf (getD (s .buckets) j (nothing .bucket)) (getD (s .buckets) i (nothing .bucket)) →
-          c ≡ nextClass (getD (s .classes) i 0) → (m : ℕ) (t : Adwin) (q : ℕ) → Closing (storedAt s j c b (s .count)) i m t q → m ≤ q → Carrying a n
-          (counting t m) j 0
+          cap < k + 2 →
+          (b : Bucket) (c : ℕ) →
+          b ≡ mergedOf (getD (s .buckets) j (nothing .bucket)) (getD (s .buckets) i (nothing .bucket)) →
+          c ≡ nextClass (getD (s .classes) i 0) →
+          (m : ℕ) (t : Adwin) (q : ℕ) →
+          Closing (storedAt s j c b (s .count)) i m t q →
+          m ≤ q →
+          Carrying a n (counting t m) j 0
       walk-merges h b c p r m t q g l =
           let y : m + 1 ≡ s .count = g .last in
           let x : take m (rowOf t) ≡ pairMerged j (heldOf s) =

@@ -1,4 +1,4 @@
--- The figures of the window. Document 01, Drift: "The cap 6, smallest side 5 and check interval 32 belong to the window."
+-- The figures of the window. Document 01, Drift: "The cap 6, smallest side 5 and check interval 32 belong to the window." Definitions only.
 use Prim.Native.Nat.{ℕ}
 use lib.Ieee.{Float, binary64, ofBits}
 
@@ -18,7 +18,7 @@ interval = 32
 abbrev pub limit : ℕ
 limit = 65535
 
--- The places for buckets. No window that started empty fills them (`Laws.antt`).
+-- The places for buckets. No window that started empty fills them (`neverFull` of `Told`).
 abbrev pub places : ℕ
 places = 81
 

@@ -35,7 +35,7 @@ abbrev pub full : Window → Outcome
 full w = record { alarm = false; refusal = 8; window = w }
 
 -- "`Adwin` update: .. have fewer than 65,535 finite values been taken? No: 8."
--- Nor do full places take one, but no window that started empty fills them (`Laws.antt`).
+-- Nor do full places take one, but no window that started empty fills them (`neverFull` of `Told`).
 abbrev pub hasRoom : Window → Bool
 hasRoom w = ltb (w .taken) limit && ltb (length (w .held)) places
 

@@ -48,8 +48,10 @@ module _ (lambda t : Float) (s : Pass) (l : Link) where
 
   -- at the next pair, or still at this one
   pub stepped :
-      (ids : List MicroId) (k : ℕ) (r : Turn) (b : Bool) (v : Pass) → r ≡ turnOf lambda t s l → r .gained ≡ b → v
-      ≡ cond b (nextPass ids k t (r .pass)) (r .pass) →
+      (ids : List MicroId) (k : ℕ) (r : Turn) (b : Bool) (v : Pass) →
+      r ≡ turnOf lambda t s l →
+      r .gained ≡ b →
+      v ≡ cond b (nextPass ids k t (r .pass)) (r .pass) →
       _≡_ {A = Step} (record { link = r .link; pass = v }) (stepOf lambda t ids k s l)
   stepped ids k r b v is e ev =
       ap (λ (p : Pass). record { link = r .link; pass = p }) (ev ∙ ap (λ (c : Bool). cond c (nextPass ids k t (r .pass)) (r .pass)) (sym e))

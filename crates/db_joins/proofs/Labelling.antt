@@ -21,9 +21,15 @@ use Rattle.db_joins.specs.Joined.{joinedBy}
 -- of n places k are held; the pairs ps make the roots
 pub labelled :
     (n k : ℕ) (ids : List MicroId) (strong : List Bool) (lambda t dense : Float) (ls : List Link)
-    (ps : List (ℕ × ℕ)) (roots : List ℕ) (r : List ℤ) → k ≡ min n microsMost →
-    length ids ≡ microsMost → length strong ≡ microsMost → length roots ≡ microsMost → length r ≡ microsMost → ps
-    ≡ joinedBy (take k ids) (take k strong) lambda t dense ls → roots ≡ rootsOf k ps → r ≡ labelsIn roots strong k →
+    (ps : List (ℕ × ℕ)) (roots : List ℕ) (r : List ℤ) →
+    k ≡ min n microsMost →
+    length ids ≡ microsMost →
+    length strong ≡ microsMost →
+    length roots ≡ microsMost →
+    length r ≡ microsMost →
+    ps ≡ joinedBy (take k ids) (take k strong) lambda t dense ls →
+    roots ≡ rootsOf k ps →
+    r ≡ labelsIn roots strong k →
     take n r ≡ labelsBy (take n strong) (joinedBy (take n ids) (take n strong) lambda t dense ls)
 unfolding labelsBy
 labelled n k ids strong lambda t dense ls ps roots r cut li ls′ lr l eps er e =

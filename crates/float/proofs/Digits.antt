@@ -50,8 +50,8 @@ pattern n h =
 -- a double's bits, by its size in units of 2^−1074
 pub bits-opened :
     (m : ℕ) (e : ℤ) →
-    toBits binary64 (fin false m e) ≡ 0 + (size
-    (m * up e * 2 ^ 1074 / down e) - 53) * 0x10_0000_0000_0000 + (m * up e * 2 ^ 1074 / down e) / 2 ^ (size (m * up e * 2 ^ 1074 / down e) - 53)
+    let units = m * up e * 2 ^ 1074 / down e in
+    toBits binary64 (fin false m e) ≡ 0 + (size units - 53) * 0x10_0000_0000_0000 + units / 2 ^ (size units - 53)
 unfolding toBits
 bits-opened m e = refl
 

@@ -1,4 +1,4 @@
--- The square root of binary64 over the values of `lib.Ieee`. Definitions only: `Theorem.antt` has what they mean in plain arithmetic.
+-- The square root of binary64 over the values of `lib.Ieee`. Definitions only: `Laws/Theorem.antt` has what they mean in plain arithmetic.
 use Prim.Native.Nat.{ℕ, zero, suc, _+_, _*_, _/_, _^_, _≤_, _<_}
 use mathlib.Core.Bool.{true, false, cond}
 use lib.IntN.{ℤ}

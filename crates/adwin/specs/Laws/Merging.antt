@@ -53,11 +53,16 @@ pub record Carried (k : ℕ) (y : Classed) (older r : List Classed) : Type 0 whe
 
 module _ (k : ℕ) (y x : Classed) (l : List Classed) (h : k < cap) (e : y .bucket .size ≡ whole (2 ^ y .class)) (z : Sized (x ∷ l))
     (m : 2 ^ y .class + valuesIn (x ∷ l) ≤ limit) where
-  pair-carried :
-      x .class ≡ y .class → Stacked (y .class) (suc k) l → cap < k + 2 →
-      (Stacked (pairOf x y .class) 0 l → pairOf x y .bucket .size
-      ≡ whole (2 ^ pairOf x y .class) → 2 ^ pairOf x y .class + valuesIn l ≤ limit → Carried 0 (pairOf x y) l (carry 0 (pairOf x y) l)) →
-      Carried k y (x ∷ l) (carry 0 (pairOf x y) l)
+  -- what is shown already: the merged pair carried on, and x carried on as one more of its class
+  abbrev PairGoes : Type 0
+  PairGoes =
+      let p = pairOf x y in
+      Stacked (p .class) 0 l → p .bucket .size ≡ whole (2 ^ p .class) → 2 ^ p .class + valuesIn l ≤ limit → Carried 0 p l (carry 0 p l)
+
+  abbrev NextGoes : Type 0
+  NextGoes = k + 1 < cap → Stacked (x .class) (k + 1) l → 2 ^ x .class + valuesIn l ≤ limit → Carried (k + 1) x l (carry (k + 1) x l)
+
+  pair-carried : x .class ≡ y .class → Stacked (y .class) (suc k) l → cap < k + 2 → PairGoes → Carried k y (x ∷ l) (carry 0 (pairOf x y) l)
   pair-carried f t g ih =
       let c = y .class in
       let o : c ≤ 15 = class-low c (omega arith) in
@@ -71,10 +76,7 @@ module _ (k : ℕ) (y x : Classed) (l : List Classed) (h : k < cap) (e : y .buck
       let v : valuesIn (carry 0 (pairOf x y) l) ≡ 2 ^ nextClass c + valuesIn l = r .values in
       record { stacked = lowered c k (subst (λ (i : ℕ). Stacked i 0 (carry 0 (pairOf x y) l)) n (r .stacked)); sized = r .sized; values = omega arith }
 
-  next-carried :
-      x .class ≡ y .class → Stacked (y .class) (suc k) l → k + 2 ≤ cap →
-      (k + 1 < cap → Stacked (x .class) (k + 1) l → 2 ^ x .class + valuesIn l ≤ limit → Carried (k + 1) x l (carry (k + 1) x l)) →
-      Carried k y (x ∷ l) (y ∷ carry (k + 1) x l)
+  next-carried : x .class ≡ y .class → Stacked (y .class) (suc k) l → k + 2 ≤ cap → NextGoes → Carried k y (x ∷ l) (y ∷ carry (k + 1) x l)
   next-carried f t g ih =
       let r = ih (omega arith) (subst (λ (i : ℕ). Stacked i (k + 1) l) (sym f) (subst (λ (i : ℕ). Stacked (y .class) i l) (sym (add-one k)) t)) (omega arith) in
       let o = carry (k + 1) x l in
@@ -86,10 +88,7 @@ module _ (k : ℕ) (y x : Classed) (l : List Classed) (h : k < cap) (e : y .buck
       }
 
   step :
-      (a : Bool) → eqb (x .class) (y .class) ≡ a → (b : Bool) → ltb cap (k + 2) ≡ b → Stacked (y .class) k (x ∷ l) →
-      (Stacked (pairOf x y .class) 0 l → pairOf x y .bucket .size
-      ≡ whole (2 ^ pairOf x y .class) → 2 ^ pairOf x y .class + valuesIn l ≤ limit → Carried 0 (pairOf x y) l (carry 0 (pairOf x y) l)) →
-      (k + 1 < cap → Stacked (x .class) (k + 1) l → 2 ^ x .class + valuesIn l ≤ limit → Carried (k + 1) x l (carry (k + 1) x l)) →
+      (a : Bool) → eqb (x .class) (y .class) ≡ a → (b : Bool) → ltb cap (k + 2) ≡ b → Stacked (y .class) k (x ∷ l) → PairGoes → NextGoes →
       Carried k y (x ∷ l) (cond a (cond b (carry 0 (pairOf x y) l) (y ∷ carry (k + 1) x l)) (y ∷ x ∷ l))
   step false p b q (same f g t) ip iq = absurd (eqb-false (x .class) (y .class) p f)
   step false p b q (next g t) ip iq = record { stacked = same refl h (next g t); sized = (e, z); values = refl }

@@ -78,9 +78,13 @@ module _ (ids : List MicroId) (k : ℕ) (among : k ≤ microsMost) (all : length
 
 -- the counts are cut to the places that there are
 pub start :
-    (lambda t : Float) (ids : List MicroId) (many k : ℕ) (ls : List Link) (count n : ℕ) (w : Walk) → length ids ≡ microsMost → k
-    ≡ min many microsMost → length ls ≡ linksMost → n ≡ min count linksMost →
-    w ≡ firstOf ids t → Walking lambda t ids k (foldl (gainOf lambda t) (take count ls) (pairsOf (take many ids))) ls n w
+    (lambda t : Float) (ids : List MicroId) (many k : ℕ) (ls : List Link) (count n : ℕ) (w : Walk) →
+    length ids ≡ microsMost →
+    k ≡ min many microsMost →
+    length ls ≡ linksMost →
+    n ≡ min count linksMost →
+    w ≡ firstOf ids t →
+    Walking lambda t ids k (foldl (gainOf lambda t) (take count ls) (pairsOf (take many ids))) ls n w
 start lambda t ids many k ls count n w all among size counted is =
     let goal : List Link = foldl (gainOf lambda t) (take count ls) (pairsOf (take many ids)) in
     let most : k ≤ microsMost = omega arith in

@@ -20,8 +20,8 @@ use Rattle.db_joins.proofs.joined.Tie as tie
 
 abbrev Inv-loop : tie.InvT-loop
 Inv-loop count ids strong n lambda t dense links end held a₀ b₀ k₀ q₀ a b k q =
-    (k ≤ q) × (q ≤ end) × (end ≤ linksMost) × (length a ≡ linksMost) × (length b
-    ≡ linksMost) × (pairsOf (take k a) (take k b) ++ joinedBy (take held ids) (take held strong) lambda t dense (rest end q links)
+    (k ≤ q) × (q ≤ end) × (end ≤ linksMost) × (length a ≡ linksMost) × (length b ≡ linksMost)
+    × (pairsOf (take k a) (take k b) ++ joinedBy (take held ids) (take held strong) lambda t dense (rest end q links)
     ≡ joinedBy (take n ids) (take n strong) lambda t dense (take count links))
 
 abbrev μ-loop : tie.MeasureT-loop

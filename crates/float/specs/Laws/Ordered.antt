@@ -45,8 +45,7 @@ le-in : (s : Bool) (a : ℕ) (t : Bool) (b : ℕ) → Le s a t b → T (below s 
 le-in false a false b h =
     elim (eq-or-lt-of-le (plain h)) [
       | inl e ↦ or-r (ltb a b) (eqb a b && true) (and-i (eqb a b) true (eq→eqb e) tt)
-      | inr l ↦ or-l (ltb a b)
-          (eqb a b && true) (lt→ltb a b l)
+      | inr l ↦ or-l (ltb a b) (eqb a b && true) (lt→ltb a b l)
     ]
   where
     plain : a + 0 ≤ b + 0 → a ≤ b
@@ -62,8 +61,7 @@ le-in true a false b h = go (a + b) refl
 le-in true a true b h =
     elim (eq-or-lt-of-le (plain h)) [
       | inl e ↦ or-r (ltb b a) (eqb a b && true) (and-i (eqb a b) true (eq→eqb (sym e)) tt)
-      | inr l ↦ or-l (ltb b a)
-          (eqb a b && true) (lt→ltb b a l)
+      | inr l ↦ or-l (ltb b a) (eqb a b && true) (lt→ltb b a l)
     ]
   where
     plain : 0 + b ≤ 0 + a → b ≤ a
@@ -73,16 +71,14 @@ le-out : (s : Bool) (a : ℕ) (t : Bool) (b : ℕ) → T (below s a t b || level
 le-out false a false b h =
     elim (or-e (ltb a b) (eqb a b && true) h) [
       | inl l ↦ (let k : a < b = ltb→lt a b l in omega arith)
-      | inr e ↦ (let k : a
-          ≡ b = eqb→eq a b (and-l (eqb a b) true e) in omega arith)
+      | inr e ↦ (let k = eqb→eq a b (and-l (eqb a b) true e) in omega (arith, k))
     ]
 le-out false a true b h = let k : a ≡ b = eqb→eq a b (and-l (eqb a b) (eqb a 0) h) in let l : a ≡ 0 = eqb→eq a 0 (and-r (eqb a b) (eqb a 0) h) in omega arith
 le-out true a false b h = omega arith
 le-out true a true b h =
     elim (or-e (ltb b a) (eqb a b && true) h) [
       | inl l ↦ (let k : b < a = ltb→lt b a l in omega arith)
-      | inr e ↦ (let k : a
-          ≡ b = eqb→eq a b (and-l (eqb a b) true e) in omega arith)
+      | inr e ↦ (let k = eqb→eq a b (and-l (eqb a b) true e) in omega (arith, k))
     ]
 
 le-fin :
