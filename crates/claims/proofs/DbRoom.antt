@@ -198,10 +198,10 @@ as-pairs n k h =
     let f : n * 1 ≡ n = mul-one n in
     omega arith
 
-most : (n k : ℕ) → n ≤ 64 → 2 * k ≤ n * (n - 1) → k ≤ 2016
+most : (n k : ℕ) → n ≤ microsMost → 2 * k ≤ n * (n - 1) → k ≤ linksMost
 most n k h l =
     let g : n - 1 ≤ 63 = omega arith in
-    let e : n * (n - 1) ≤ 64 * 63 = mul-le-mul h g in
+    let e : n * (n - 1) ≤ microsMost * 63 = mul-le-mul h g in
     omega arith
 
 -- ---- room for every gain
@@ -222,8 +222,8 @@ module _ (lambda t : Float) where
       go false true ih = inl refl
       go false false ih = inr refl
 
-  module _ (ms : List DbMicro) (u : Ascending Older ms) (few : length ms ≤ 64) where
-    links-most : (ls : List Link) → LinksHeld ms ls → length ls ≤ 2016
+  module _ (ms : List DbMicro) (u : Ascending Older ms) (few : length ms ≤ microsMost) where
+    links-most : (ls : List Link) → LinksHeld ms ls → length ls ≤ linksMost
     links-most ls g = most (length ms) (length ls) few (as-pairs (length ms) (length ls) (good-most ms u ls g))
 
     -- a gain is the one in a list without bound: a full list has every pair already
@@ -240,7 +240,7 @@ module _ (lambda t : Float) where
         go true e = refl
         go false e =
             let full : linksMost ≤ length ls = ltb-false (length ls) linksMost e in
-            let bound : length (gainIn lambda t true k ls) ≤ 2016 = links-most (gainIn lambda t true k ls) more in
+            let bound : length (gainIn lambda t true k ls) ≤ linksMost = links-most (gainIn lambda t true k ls) more in
             ⊎-elim (λ s. sym s) (λ s. absurd (omega arith)) (grows k ls)
 
     -- and so are all the gains of an insert

@@ -48,7 +48,7 @@ module _ (s : State) (labelled : s .labels ≡ labelsOf s) (few : length (s .hel
   n-is : n ≡ length (s .held .potential)
   n-is = length-map (s .held .potential) (λ (m : DenMicro). fadedWeight (s .params .settings .lambda) (s .t) (m .body))
 
-  low : n ≤ 64
+  low : n ≤ microsMost
   low = omega (arith, n-is, few)
 
   abbrev roots : List ℕ
@@ -70,7 +70,7 @@ module _ (s : State) (labelled : s .labels ≡ labelsOf s) (few : length (s .hel
 
   sum-at : (i : ℕ) → i < n → getD (sumsOf roots ws) (getD roots i 0) nan ≡ sumAt i
   unfolding sumsOf sumAt
-  sum-at i h = table-at 64 (λ v. sumFrom nought v roots ws) nan (getD roots i 0) (tells .low i (omega (arith, low)))
+  sum-at i h = table-at microsMost (λ v. sumFrom nought v roots ws) nan (getD roots i 0) (tells .low i (omega (arith, low)))
 
   weighs : (i : ℕ) → i < n → (v : Float) → Weighs s i v ↔ (v ≡ sumAt i)
   weighs i h v =

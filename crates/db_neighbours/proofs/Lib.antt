@@ -1,2 +1,3 @@
+-- What the proofs of `src/` cite: a point among the micro-clusters, and a turn of each loop.
 pub mod Points
 pub mod Turns

@@ -14,18 +14,19 @@ use Rattle.lists.specs.Rest.{rest}
 use Rattle.drift.specs.declared.Nearest.the-variants.{Nothing, Distance}
 use Rattle.model.specs.DbInsert.{leastOf}
 use Rattle.lists.specs.Retain.{retain}
+use Rattle.model.specs.Limits.{microsMost}
 
 -- ---- the least distance
-module _ (n k : ℕ) (ds : List Float) (e : k ≡ min n 64) (l : length ds ≡ 64) where
+module _ (n k : ℕ) (ds : List Float) (e : k ≡ min n microsMost) (l : length ds ≡ microsMost) where
   pub least-none : k ≡ 0 → leastOf (take n ds) ≡ Nothing
   unfolding leastOf
-  least-none h = rw (← cut-take k n 64 ds e l, h)
+  least-none h = rw (← cut-take k n microsMost ds e l, h)
 
   pub least-start : 0 < k → Distance (foldl smaller (getD ds 0 nan) (rest k 1 ds)) ≡ leastOf (take n ds)
   unfolding leastOf
   least-start h =
       let b : k ≤ length ds = omega arith in
-      rw (← cut-take k n 64 ds e l, ← rest-start k ds, rest-step k 0 ds nan)
+      rw (← cut-take k n microsMost ds e l, ← rest-start k ds, rest-step k 0 ds nan)
 
 -- ---- a filter into another array: `if p(l[i]) { out[k] = f(l[i]); k += 1; }` for i from 0
 module _ {A B : Type 0} (f : A → B) (p : A → Bool) (n i : ℕ) (l : List A) (z : A) (h : i < n) (fits : n ≤ length l) (k : ℕ) (out : List B) where

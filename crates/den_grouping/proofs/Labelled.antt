@@ -17,6 +17,7 @@ use Rattle.labels.specs.Label.{labelsOf}
 use Rattle.labels.specs.Laws.Label.{labels-length}
 use Rattle.labels.specs.Group.{sumFrom, sumsOf}
 use Rattle.model.specs.declared.micro.DenMicro.{DenMicro}
+use Rattle.model.specs.Limits.{microsMost}
 use Rattle.model.specs.Families.{labelsBy, countedBy}
 use Rattle.model.specs.DenState.{Params}
 use Rattle.model.specs.DenCluster.{pairsFrom}
@@ -29,34 +30,42 @@ map-agree f g [] h = refl
 map-agree f g (x ∷ l) h = ap₂ (λ (b : Bool) (r : List Bool). b ∷ r) (h 0 (omega arith)) (map-agree f g l (λ i k. h (suc i) (omega arith)))
 
 -- an array's first n, as those of its first 64 that are seen
-seen-cut : (d k n end : ℕ) (pool : List DenMicro) → d ≡ k → end ≡ min n 64 → length pool ≡ 64 → seen d end pool ≡ seen k n pool
-seen-cut d k n end pool e c h = ap (λ (j : ℕ). seen j end pool) e ∙ ap (map (microIn k)) (cut-take end n 64 pool c h)
+seen-cut : (d k n end : ℕ) (pool : List DenMicro) → d ≡ k → end ≡ min n microsMost → length pool ≡ microsMost → seen d end pool ≡ seen k n pool
+seen-cut d k n end pool e c h = ap (λ (j : ℕ). seen j end pool) e ∙ ap (map (microIn k)) (cut-take end n microsMost pool c h)
 
 pub weights-cut :
-    (k n end : ℕ) (pool : List DenMicro) (lambda t : Float) (ws : List Float) → end ≡ min n 64 → length pool ≡ 64 → ws
-    ≡ map (weightOf lambda t) (take end pool) →
+    (k n end : ℕ) (pool : List DenMicro) (lambda t : Float) (ws : List Float) →
+    end ≡ min n microsMost →
+    length pool ≡ microsMost →
+    ws ≡ map (weightOf lambda t) (take end pool) →
     ws ≡ map (weightOf lambda t) (seen k n pool)
 weights-cut k n end pool lambda t ws c h e =
-    e ∙ ap (map (weightOf lambda t)) (cut-take end n 64 pool c h) ∙ sym (map-map (weightOf lambda t) (microIn k) (take n pool))
+    e ∙ ap (map (weightOf lambda t)) (cut-take end n microsMost pool c h) ∙ sym (map-map (weightOf lambda t) (microIn k) (take n pool))
 
 pub roots-cut :
-    (eps2 : Float) (d k n end : ℕ) (pool : List DenMicro) (es : List (ℕ × ℕ)) (roots : List ℕ) → d ≡ k → end ≡ min n 64 → length pool ≡ 64 → es
-    ≡ pairsFrom eps2 0 (seen d end pool) → roots ≡ rootsOf end es →
+    (eps2 : Float) (d k n end : ℕ) (pool : List DenMicro) (es : List (ℕ × ℕ)) (roots : List ℕ) →
+    d ≡ k →
+    end ≡ min n microsMost →
+    length pool ≡ microsMost →
+    es ≡ pairsFrom eps2 0 (seen d end pool) →
+    roots ≡ rootsOf end es →
     roots ≡ rootsOf end (pairsFrom eps2 0 (seen k n pool))
 roots-cut eps2 d k n end pool es roots e c h p r = r ∙ ap (rootsOf end) (p ∙ ap (pairsFrom eps2 0) (seen-cut d k n end pool e c h))
 
 -- the roots stand among the places
-pub roots-low : (end : ℕ) → end ≤ 64 → (es : List (ℕ × ℕ)) (roots : List ℕ) → roots ≡ rootsOf end es → (i : ℕ) → i < 64 → getD roots i 0 < 64
-roots-low end h es roots e i k = subst (λ (r : List ℕ). getD r i 0 < 64) (sym e) (roots-tell end h es .low i k)
+pub roots-low :
+    (end : ℕ) → end ≤ microsMost → (es : List (ℕ × ℕ)) (roots : List ℕ) → roots ≡ rootsOf end es →
+    (i : ℕ) → i < microsMost → getD roots i 0 < microsMost
+roots-low end h es roots e i k = subst (λ (r : List ℕ). getD r i 0 < microsMost) (sym e) (roots-tell end h es .low i k)
 
-module _ (p : Params) (t : Float) (l : List DenMicro) (end : ℕ) (size : length l ≡ end) (few : end ≤ 64)
+module _ (p : Params) (t : Float) (l : List DenMicro) (end : ℕ) (size : length l ≡ end) (few : end ≤ microsMost)
     (roots : List ℕ) (er : roots ≡ rootsOf end (pairsFrom (p .eps2) 0 l))
     (ws : List Float) (ew : ws ≡ map (weightOf (p .settings .lambda) t) l) (sums : List Float) (es : sums ≡ sumsOf roots ws)
     (mask : List Bool) (em : mask ≡ map (λ (v : ℕ). le (p .settings .mu) (getD sums v nan)) (take end roots)) where
   abbrev pairs : List (ℕ × ℕ)
   pairs = pairsFrom (p .eps2) 0 l
 
-  roots-size : length roots ≡ 64
+  roots-size : length roots ≡ microsMost
   roots-size = ap length er ∙ roots-tell end few pairs .count
 
   first-size : length (take end roots) ≡ end
@@ -65,9 +74,14 @@ module _ (p : Params) (t : Float) (l : List DenMicro) (end : ℕ) (size : length
   mask-size : length mask ≡ end
   mask-size = ap length em ∙ length-map (take end roots) (λ (v : ℕ). le (p .settings .mu) (getD sums v nan)) ∙ first-size
 
-  sum-at : (v : ℕ) → v < 64 → getD sums v nan ≡ sumFrom (ofBits binary64 0) v roots ws
+  sum-at : (v : ℕ) → v < microsMost → getD sums v nan ≡ sumFrom (ofBits binary64 0) v roots ws
   unfolding sumsOf
-  sum-at v h = ap (λ (s : List Float). getD s v nan) es ∙ table-at 64 (λ (u : ℕ). sumFrom (ofBits binary64 0) u roots ws) nan v h
+  sum-at v h = ap (λ (s : List Float). getD s v nan) es ∙ table-at microsMost (λ (u : ℕ). sumFrom (ofBits binary64 0) u roots ws) nan v h
+
+  root-low : (i : ℕ) → i < length (take end roots) → getD (take end roots) i 0 < microsMost
+  root-low i k =
+      subst (λ (v : ℕ). v < microsMost) (sym (getD-take end roots i 0 (omega (arith, first-size))))
+      (roots-low end few pairs roots er i (omega (arith, first-size)))
 
   mask-is : mask ≡ countedBy (p .settings .mu) (map (weightOf (p .settings .lambda) t) l) pairs
   unfolding countedBy
@@ -75,8 +89,7 @@ module _ (p : Params) (t : Float) (l : List DenMicro) (end : ℕ) (size : length
       em
       ∙ map-agree (λ (v : ℕ). le (p .settings .mu) (getD sums v nan)) (λ (v : ℕ). le (p .settings .mu) (sumFrom (ofBits binary64 0) v roots ws))
       (take end roots)
-      (λ i k. ap (le (p .settings .mu)) (sum-at (getD (take end roots) i 0)
-      (subst (λ (v : ℕ). v < 64) (sym (getD-take end roots i 0 (omega (arith, first-size)))) (roots-low end few pairs roots er i (omega (arith, first-size))))))
+      (λ i k. ap (le (p .settings .mu)) (sum-at (getD (take end roots) i 0) (root-low i k)))
       ∙ ap (λ (r : List ℕ). map (λ (v : ℕ). le (p .settings .mu) (sumFrom (ofBits binary64 0) v r ws)) (take end r)) er
       ∙ ap (λ (w : List Float). map (λ (v : ℕ). le (p .settings .mu) (sumFrom (ofBits binary64 0) v (rootsOf end pairs) w)) (take end (rootsOf end pairs))) ew
       ∙ ap (λ (n : ℕ). map (λ (v : ℕ). le (p .settings .mu)
@@ -91,15 +104,20 @@ module _ (p : Params) (t : Float) (l : List DenMicro) (end : ℕ) (size : length
 
   -- of the array that holds them
   pub labelled :
-      (n : ℕ) (r : List ℤ) → end ≡ min n 64 → (counts : List Bool) → take end counts ≡ mask → r ≡ label.labelsIn roots counts end → length r ≡ 64 →
+      (n : ℕ) (r : List ℤ) →
+      end ≡ min n microsMost →
+      (counts : List Bool) →
+      take end counts ≡ mask →
+      r ≡ label.labelsIn roots counts end →
+      length r ≡ microsMost →
       take n r ≡ labelsIn p t l
   unfolding label.labelsIn labelsOf
   labelled n r c counts q e h =
-      sym (cut-take end n 64 r c h)
-      ∙ ap (take end) (e ∙ ap (λ (m : List Bool). labelsOf m roots ++ replicate (64 - min end 64) (negsuc 0)) q)
-      ∙ take-at (labelsOf mask roots) (replicate (64 - min end 64) (negsuc 0)) end
+      sym (cut-take end n microsMost r c h)
+      ∙ ap (take end) (e ∙ ap (λ (m : List Bool). labelsOf m roots ++ replicate (microsMost - min end microsMost) (negsuc 0)) q)
+      ∙ take-at (labelsOf mask roots) (replicate (microsMost - min end microsMost) (negsuc 0)) end
       (labels-length [] mask roots (omega (arith, mask-size, roots-size)) ∙ mask-size)
       ∙ labels-are
 
-pub seen-size : (d n end : ℕ) (pool : List DenMicro) → end ≡ min n 64 → length pool ≡ 64 → length (seen d n pool) ≡ end
+pub seen-size : (d n end : ℕ) (pool : List DenMicro) → end ≡ min n microsMost → length pool ≡ microsMost → length (seen d n pool) ≡ end
 seen-size d n end pool c h = length-map (take n pool) (microIn d) ∙ omega (arith, length-take n pool)

@@ -16,9 +16,10 @@ use Rattle.lists.specs.Laws.Maps.{map-drop}
 use Rattle.feature.specs.Distance.{sqDist}
 use Rattle.union_find.specs.Pairs.{pairsOf}
 use Rattle.model.specs.declared.micro.DenMicro.{DenMicro}
+use Rattle.model.specs.Limits.{microsMost}
 use Rattle.model.specs.DenCluster.{close, rowFrom, pairsFrom}
 use Rattle.den_pool.specs.Held.{microIn, seen}
-use Rattle.den_grouping.specs.Group.{rowOf, rowAt}
+use Rattle.den_grouping.specs.Group.{pairsMost, rowOf, rowAt}
 
 -- ---- a pair more, in two arrays
 pairs-snoc : (xs ys : List ℕ) (x y : ℕ) → length xs ≡ length ys → pairsOf (xs ++ x ∷ []) (ys ++ y ∷ []) ≡ pairsOf xs ys ++ (x, y) ∷ []
@@ -62,29 +63,29 @@ module _ (eps2 : Float) (i : ℕ) (centre : List Float) (dim n : ℕ) (l : List 
   pub record Rowed (all : List (ℕ × ℕ)) (total : ℕ) (a b : List ℕ) (k j : ℕ) : Type 0 where
     pub low : i < j
     pub top : j ≤ n
-    pub a-size : length a ≡ 2016
-    pub b-size : length b ≡ 2016
-    pub fits : total ≤ 2016
+    pub a-size : length a ≡ pairsMost
+    pub b-size : length b ≡ pairsMost
+    pub fits : total ≤ pairsMost
     pub done : pairsOf (take k a) (take k b) ++ left j ≡ all
     pub counted : k + length (left j) ≡ total
 
   module _ (all : List (ℕ × ℕ)) (total : ℕ) (a b : List ℕ) (k j : ℕ) (g : Rowed all total a b k j) (h : j < n) (s : n ≤ length l) (z : DenMicro)
       (v : Float) (e : v ≡ sqDist centre (take dim (getD l j z .body .cf .mean))) where
-    pub row-room : le v reach ≡ true → k < 2016
+    pub row-room : le v reach ≡ true → k < pairsMost
     row-room w =
         let c : k + length (left j) ≡ total = g .counted in
         let d : length (left j) ≡ length (left (j + 1)) + 1 = ap length (left-is j z v true h s e w) ∙ omega arith in
-        let f : total ≤ 2016 = g .fits in
+        let f : total ≤ pairsMost = g .fits in
         omega arith
 
     pub row-close : le v reach ≡ true → Rowed all total (set a k i) (set b k j) (k + 1) (j + 1)
     row-close w =
-        let x : k < 2016 = row-room w in
+        let x : k < pairsMost = row-room w in
         let c : k + length (left j) ≡ total = g .counted in
         let d : length (left j) ≡ length (left (j + 1)) + 1 = ap length (left-is j z v true h s e w) ∙ omega arith in
         let m : i < j = g .low in
-        let sa : length a ≡ 2016 = g .a-size in
-        let sb : length b ≡ 2016 = g .b-size in
+        let sa : length a ≡ pairsMost = g .a-size in
+        let sb : length b ≡ pairsMost = g .b-size in
         record {
           low = omega arith;
           top = omega arith;
@@ -113,7 +114,7 @@ module _ (eps2 : Float) (i : ℕ) (centre : List Float) (dim n : ℕ) (l : List 
 
   pub row-end :
       (all : List (ℕ × ℕ)) (total : ℕ) (a b : List ℕ) (k j : ℕ) → Rowed all total a b k j → n ≤ j →
-      (pairsOf (take k a) (take k b) ≡ all) × ((k ≡ total) × ((length a ≡ 2016) × (length b ≡ 2016)))
+      (pairsOf (take k a) (take k b) ≡ all) × ((k ≡ total) × ((length a ≡ pairsMost) × (length b ≡ pairsMost)))
   row-end all total a b k j g h =
       let e : left j ≡ [] = left-end j h in (
         sym (append-nil (pairsOf (take k a) (take k b))) ∙ ap (λ (r : List (ℕ × ℕ)). pairsOf (take k a) (take k b) ++ r) (sym e) ∙ g .done,
@@ -130,10 +131,15 @@ module _ (eps2 : Float) (dim n i : ℕ) (l : List DenMicro) where
   row-start z h k = sym (ap (rowOf eps2 i) (seen-rest ∙ ap (map (microIn dim)) (rest-step n i l z h k)))
 
   pub row-from :
-      (z : DenMicro) → i < n → n ≤ length l → (a b : List ℕ) (count : ℕ) → length a ≡ 2016 → length b
-      ≡ 2016 → count + length (rowAt eps2 i (seen dim n l)) ≤ 2016 →
-      Rowed eps2 i (take dim (getD l i z .body .cf .mean)) dim n l (pairsOf (take count a) (take count b) ++ rowAt eps2 i (seen dim n l))
-      (count + length (rowAt eps2 i (seen dim n l))) a b count (i + 1)
+      (z : DenMicro) →
+      i < n →
+      n ≤ length l →
+      (a b : List ℕ) (count : ℕ) →
+      length a ≡ pairsMost →
+      length b ≡ pairsMost →
+      let row = rowAt eps2 i (seen dim n l) in
+      count + length row ≤ pairsMost →
+      Rowed eps2 i (take dim (getD l i z .body .cf .mean)) dim n l (pairsOf (take count a) (take count b) ++ row) (count + length row) a b count (i + 1)
   row-from z h k a b count sa sb f =
       record {
         low = omega arith;
@@ -164,15 +170,13 @@ twice-few eps2 i [] = omega arith
 twice-few eps2 i (m ∷ l) =
     let a : length (rowFrom eps2 i (m .body .cf .mean) (i + 1) l) ≤ length l = row-few eps2 i (m .body .cf .mean) (i + 1) l in
     let b : 2 * length (pairsFrom eps2 (i + 1) l) + length l ≤ length l * length l = twice-few eps2 (i + 1) l in
-    let c : length (rowFrom eps2 i (m .body .cf .mean) (i + 1) l ++ pairsFrom eps2 (i + 1) l)
-    ≡ length (rowFrom eps2 i (m .body .cf .mean) (i + 1) l) + length (pairsFrom eps2 (i + 1) l) =
-    length-append (rowFrom eps2 i (m .body .cf .mean) (i + 1) l) (pairsFrom eps2 (i + 1) l) in
-    rw (← add-one (length l)) (omega (arith, next-square (length l)))
+    let c = length-append (rowFrom eps2 i (m .body .cf .mean) (i + 1) l) (pairsFrom eps2 (i + 1) l) in
+    rw (← add-one (length l)) (omega (arith, c, next-square (length l)))
 
-pairs-few : (eps2 : Float) (i : ℕ) (l : List DenMicro) → length l ≤ 64 → length (pairsFrom eps2 i l) ≤ 2016
+pairs-few : (eps2 : Float) (i : ℕ) (l : List DenMicro) → length l ≤ microsMost → length (pairsFrom eps2 i l) ≤ pairsMost
 pairs-few eps2 i l h =
     let a : 2 * length (pairsFrom eps2 i l) + length l ≤ length l * length l = twice-few eps2 i l in
-    let b : length l * length l ≤ length l * 64 = mul-le-mul-left (length l) h in
+    let b : length l * length l ≤ length l * microsMost = mul-le-mul-left (length l) h in
     omega arith
 
 -- ---- all rows
@@ -196,30 +200,33 @@ module _ (eps2 : Float) (dim n : ℕ) (l : List DenMicro) where
 
   pub record Paired (a b : List ℕ) (count i : ℕ) : Type 0 where
     pub top : i ≤ n
-    pub a-size : length a ≡ 2016
-    pub b-size : length b ≡ 2016
+    pub a-size : length a ≡ pairsMost
+    pub b-size : length b ≡ pairsMost
     pub done : pairsOf (take count a) (take count b) ++ rows i ≡ every
     pub counted : count + length (rows i) ≡ length every
 
-  pub pair-from : (a b : List ℕ) → length a ≡ 2016 → length b ≡ 2016 → Paired a b 0 0
+  pub pair-from : (a b : List ℕ) → length a ≡ pairsMost → length b ≡ pairsMost → Paired a b 0 0
   pair-from a b sa sb =
       let e : rows 0 ≡ every = ap (λ (r : List DenMicro). pairsFrom eps2 0 (map (microIn dim) r)) (rest-start n l) in
       let q : length (rows 0) ≡ length every = ap length e in
       record { top = omega arith; a-size = sa; b-size = sb; done = e; counted = omega arith }
 
   module _ (a b : List ℕ) (count i : ℕ) (g : Paired a b count i) (k : n ≤ length l) where
-    pub pair-room : i < n → n ≤ 64 → count + length (rowAt eps2 i (seen dim n l)) ≤ 2016
+    pub pair-room : i < n → n ≤ microsMost → count + length (rowAt eps2 i (seen dim n l)) ≤ pairsMost
     pair-room h s =
         let c : count + length (rows i) ≡ length every = g .counted in
         let d : length (rows i) ≡ length (rowAt eps2 i (seen dim n l)) + length (rows (i + 1)) =
         ap length (rows-step i h k) ∙ length-append (rowAt eps2 i (seen dim n l)) (rows (i + 1)) in
-        let f : length every ≤ 2016 = pairs-few eps2 0 (seen dim n l) (omega (arith, length-map (take n l) (microIn dim), length-take n l)) in
+        let f : length every ≤ pairsMost = pairs-few eps2 0 (seen dim n l) (omega (arith, length-map (take n l) (microIn dim), length-take n l)) in
         omega arith
 
     pub pair-next :
-        i < n → (a₁ b₁ : List ℕ) (r : ℕ) → pairsOf (take r a₁) (take r b₁) ≡ pairsOf (take count a) (take count b) ++ rowAt eps2 i (seen dim n l) → r
-        ≡ count + length (rowAt eps2 i (seen dim n l)) →
-        (length a₁ ≡ 2016) × (length b₁ ≡ 2016) → Paired a₁ b₁ r (i + 1)
+        i < n →
+        (a₁ b₁ : List ℕ) (r : ℕ) →
+        pairsOf (take r a₁) (take r b₁) ≡ pairsOf (take count a) (take count b) ++ rowAt eps2 i (seen dim n l) →
+        r ≡ count + length (rowAt eps2 i (seen dim n l)) →
+        (length a₁ ≡ pairsMost) × (length b₁ ≡ pairsMost) →
+        Paired a₁ b₁ r (i + 1)
     pair-next h a₁ b₁ r e q s =
         let c : count + length (rows i) ≡ length every = g .counted in
         let d : length (rows i) ≡ length (rowAt eps2 i (seen dim n l)) + length (rows (i + 1)) =
@@ -235,11 +242,11 @@ module _ (eps2 : Float) (dim n : ℕ) (l : List DenMicro) where
           counted = omega arith;
         }
 
-    pub pair-end : n ≤ i → n ≤ 64 → (pairsOf (take count a) (take count b) ≡ every) × ((count ≤ length a) × (count ≤ length b))
+    pub pair-end : n ≤ i → n ≤ microsMost → (pairsOf (take count a) (take count b) ≡ every) × ((count ≤ length a) × (count ≤ length b))
     pair-end h s =
         let e : rows i ≡ [] = rows-end i h in (
           sym (append-nil (pairsOf (take count a) (take count b))) ∙ ap (λ (x : List (ℕ × ℕ)). pairsOf (take count a) (take count b) ++ x) (sym e) ∙ g .done,
           (let c : count + length (rows i) ≡ length every = g .counted in
-              let f : length every ≤ 2016 = pairs-few eps2 0 (seen dim n l) (omega (arith, length-map (take n l) (microIn dim), length-take n l)) in
+              let f : length every ≤ pairsMost = pairs-few eps2 0 (seen dim n l) (omega (arith, length-map (take n l) (microIn dim), length-take n l)) in
               (omega (arith, g .a-size), omega (arith, g .b-size))),
         )

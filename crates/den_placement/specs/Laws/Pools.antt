@@ -12,6 +12,7 @@ use Rattle.lists.specs.Laws.Rest.{take-set}
 use Rattle.lists.specs.Laws.Maps.{map-set, map-append, map-retain}
 use Rattle.lists.specs.Laws.Sizes.{retain-length, without-length}
 use Rattle.model.specs.declared.micro.DenMicro.{DenMicro}
+use Rattle.model.specs.Limits.{microsMost}
 use Rattle.model.specs.DenState.{Params, Holdings, pooled}
 use Rattle.model.specs.DenInsert.{potentialStays, outlierStays, pruned}
 use Rattle.den_pool.specs.declared.pool.Pool.{Pool}
@@ -61,12 +62,12 @@ module _ (d : ℕ) (potential : List DenMicro) (potentialCount : ℕ) (outliers 
       abbrev Needs : Target → Type 0
       Needs u = Ready u place s
 
-      pub potential-low : target ≡ Potential → length potential ≡ 64 → place < 64
+      pub potential-low : target ≡ Potential → length potential ≡ microsMost → place < microsMost
       potential-low e h =
           let q : place < length (s .potential) = subst Needs e r in
           omega (arith, q, length-map (take (potentialHeld potentialCount) potential) (microIn d), length-take (potentialHeld potentialCount) potential)
 
-      pub outlier-low : target ≡ Outlier → length outliers ≡ 64 → place < 64
+      pub outlier-low : target ≡ Outlier → length outliers ≡ microsMost → place < microsMost
       outlier-low e h =
           let q : place < length (s .outliers) = subst Needs e r in
           omega (
@@ -77,7 +78,7 @@ module _ (d : ℕ) (potential : List DenMicro) (potentialCount : ℕ) (outliers 
                 (outliersHeld potentialCount outlierCount) outliers,
           )
 
-  module _ (lp : length potential ≡ 64) (lo : length outliers ≡ 64) (np : ℕ) (ep : np ≡ potentialHeld potentialCount) (ko : ℕ)
+  module _ (lp : length potential ≡ microsMost) (lo : length outliers ≡ microsMost) (np : ℕ) (ep : np ≡ potentialHeld potentialCount) (ko : ℕ)
       (eo : ko ≡ outliersHeld potentialCount outlierCount) where
     p-size : length (take np potential) ≡ np
     p-size = omega (arith, length-take np potential)
@@ -102,7 +103,7 @@ module _ (d : ℕ) (potential : List DenMicro) (potentialCount : ℕ) (outliers 
       promotion-place : target ≡ Promotion → place < ko
       promotion-place e = let w : place < length (s .outliers) = subst (λ (u : Target). Ready u place s) e r in omega (arith, w, o-length)
 
-      pub promotion-low : target ≡ Promotion → np < 64
+      pub promotion-low : target ≡ Promotion → np < microsMost
       promotion-low e = omega (arith, promotion-place e)
 
       pub promotes :
@@ -119,9 +120,9 @@ module _ (d : ℕ) (potential : List DenMicro) (potentialCount : ℕ) (outliers 
           ∙ ap (λ (u : Target). pooledAt u place (microIn d m) s) (sym e)
 
       -- a new outlier at the end
-      pub newborn-low : target ≡ Newborn → np + ko < 64
+      pub newborn-low : target ≡ Newborn → np + ko < microsMost
       newborn-low e =
-          let w : length (s .potential) + length (s .outliers) < 64 = subst (λ (u : Target). Ready u place s) e r in
+          let w : length (s .potential) + length (s .outliers) < microsMost = subst (λ (u : Target). Ready u place s) e r in
           omega (arith, w, p-length, o-length)
 
       pub comes : target ≡ Newborn → poolsOf d potential potentialCount (set outliers ko m) (ko + 1) ≡ pooledAt target place (microIn d m) s

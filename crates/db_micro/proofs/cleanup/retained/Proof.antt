@@ -9,11 +9,12 @@ use Rattle.lists.specs.Laws.Counted.{Kept, keep-starts, keep-takes, keep-drops,
 use Rattle.model.specs.declared.micro.DbMicro.{DbMicro}
 use Rattle.model.specs.DbInsert.{microStays}
 use borrow.Author.Needs.{needs}
+use Rattle.model.specs.Limits.{microsMost}
 use Rattle.db_micro.proofs.cleanup.retained.Statement.{statement}
 use Rattle.db_micro.proofs.cleanup.retained.Tie as tie
 
 abbrev Inv-loop : tie.InvT-loop
-Inv-loop n lambda t floor micros₀ end i₀ j₀ micros i j = Kept (microStays lambda floor t) 64 n end micros₀ micros i j
+Inv-loop n lambda t floor micros₀ end i₀ j₀ micros i j = Kept (microStays lambda floor t) microsMost n end micros₀ micros i j
 
 abbrev μ-loop : tie.MeasureT-loop
 μ-loop n lambda t floor micros₀ end i₀ j₀ micros i j = end - i

@@ -5,11 +5,12 @@ use native.Mathlib.Omega.{arith}
 use Rattle.db_micro.specs.Held.{bodyOf}
 use Rattle.lists.specs.Laws.Counted.{Gathered, gather-starts, gather-goes, gather-ends}
 use borrow.Author.Needs.{needs}
+use Rattle.model.specs.Limits.{microsMost}
 use Rattle.db_micro.proofs.identity.bodies.Statement.{statement}
 use Rattle.db_micro.proofs.identity.bodies.Tie as tie
 
 abbrev Inv-loop : tie.InvT-loop
-Inv-loop n micros k all₀ i₀ all i = Gathered bodyOf 64 n k micros all i
+Inv-loop n micros k all₀ i₀ all i = Gathered bodyOf microsMost n k micros all i
 
 abbrev μ-loop : tie.MeasureT-loop
 μ-loop n micros k all₀ i₀ all i = k - i

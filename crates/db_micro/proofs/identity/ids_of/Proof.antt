@@ -5,11 +5,12 @@ use native.Mathlib.Omega.{arith}
 use Rattle.model.specs.DbInsert.{idOf}
 use Rattle.lists.specs.Laws.Counted.{Gathered, gather-starts, gather-goes, gather-ends}
 use borrow.Author.Needs.{needs}
+use Rattle.model.specs.Limits.{microsMost}
 use Rattle.db_micro.proofs.identity.ids_of.Statement.{statement}
 use Rattle.db_micro.proofs.identity.ids_of.Tie as tie
 
 abbrev Inv-loop : tie.InvT-loop
-Inv-loop n micros k ids₀ i₀ ids i = Gathered idOf 64 n k micros ids i
+Inv-loop n micros k ids₀ i₀ ids i = Gathered idOf microsMost n k micros ids i
 
 abbrev μ-loop : tie.MeasureT-loop
 μ-loop n micros k ids₀ i₀ ids i = k - i

@@ -10,11 +10,12 @@ use Rattle.model.specs.declared.micro.DbMicro.{DbMicro}
 use Rattle.model.specs.DbCluster.{storedWeight}
 use Rattle.db_micro.proofs.Turns.{weight-here, weight-next, weight-end}
 use borrow.Author.Needs.{needs}
+use Rattle.model.specs.Limits.{microsMost}
 use Rattle.db_micro.proofs.weight.stored_weight.Statement.{statement}
 use Rattle.db_micro.proofs.weight.stored_weight.Tie as tie
 
 abbrev Inv-loop : tie.InvT-loop
-Inv-loop n id micros k i₀ i = (i ≤ k) × (k ≤ 64) × (storedWeight (rest k i micros) id ≡ storedWeight (take n micros) id)
+Inv-loop n id micros k i₀ i = (i ≤ k) × (k ≤ microsMost) × (storedWeight (rest k i micros) id ≡ storedWeight (take n micros) id)
 
 abbrev μ-loop : tie.MeasureT-loop
 μ-loop n id micros k i₀ i = k - i
@@ -22,7 +23,7 @@ abbrev μ-loop : tie.MeasureT-loop
 loop-holds : tie.Need-loop-holds Inv-loop μ-loop
 loop-holds c =
     let a = c .before .args in
-    (omega arith, omega arith, ap (λ (l : List DbMicro). storedWeight l (a .id)) (cut-start _ (a .n) 64 (a .t1) (c .cut .ensures) (omega arith)))
+    (omega arith, omega arith, ap (λ (l : List DbMicro). storedWeight l (a .id)) (cut-start _ (a .n) microsMost (a .t1) (c .cut .ensures) (omega arith)))
 
 returns : tie.Need-returns Inv-loop μ-loop
 returns c =

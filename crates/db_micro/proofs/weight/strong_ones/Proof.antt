@@ -6,11 +6,12 @@ use lib.Ieee.{Float, le}
 use Rattle.db_micro.specs.Held.{reaches}
 use Rattle.lists.specs.Laws.Counted.{Gathered, gather-starts, gather-goes, gather-ends}
 use borrow.Author.Needs.{needs}
+use Rattle.model.specs.Limits.{microsMost}
 use Rattle.db_micro.proofs.weight.strong_ones.Statement.{statement}
 use Rattle.db_micro.proofs.weight.strong_ones.Tie as tie
 
 abbrev Inv-loop : tie.InvT-loop
-Inv-loop n lambda t min-weight micros k strong₀ i₀ strong i = Gathered (reaches lambda t min-weight) 64 n k micros strong i
+Inv-loop n lambda t min-weight micros k strong₀ i₀ strong i = Gathered (reaches lambda t min-weight) microsMost n k micros strong i
 
 abbrev μ-loop : tie.MeasureT-loop
 μ-loop n lambda t min-weight micros k strong₀ i₀ strong i = k - i

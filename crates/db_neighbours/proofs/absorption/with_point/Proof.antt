@@ -8,6 +8,7 @@ use Rattle.model.specs.DbInsert.{absorbs}
 use Rattle.db_neighbours.specs.Laws.Absorbing.{Absorbing, absorbing-starts, absorbing-takes, absorbing-skips, absorbing-ends}
 use Rattle.db_neighbours.proofs.Points.{born-placed, full-placed, absorbed-placed}
 use borrow.Author.Needs.{needs}
+use Rattle.model.specs.Limits.{microsMost}
 use Rattle.db_neighbours.proofs.absorption.with_point.Statement.{statement}
 use Rattle.db_neighbours.proofs.absorption.with_point.Tie as tie
 
@@ -18,7 +19,7 @@ abbrev μ-loop : tie.MeasureT-loop
 μ-loop n x dim r lambda t micros₀ held count next ds r2 i₀ micros i = held - i
 
 -- the places of the scan's distances
-distances-room : (c : tie.Start Inv-loop μ-loop) → length (c .args .scan .distances) ≡ 64
+distances-room : (c : tie.Start Inv-loop μ-loop) → length (c .args .scan .distances) ≡ microsMost
 distances-room c = sym (length-map (c .args .scan .distances) _) ∙ c .good .1 .1 .1 .0 .1 .1 .0 .1 .0 .1
 
 loop-holds : tie.Need-loop-holds Inv-loop μ-loop

@@ -12,11 +12,12 @@ use Rattle.drift.specs.declared.Nearest.the-variants.{Distance}
 use Rattle.model.specs.DbInsert.{leastOf}
 use Rattle.db_neighbours.proofs.Turns.{least-none, least-start}
 use borrow.Author.Needs.{needs}
+use Rattle.model.specs.Limits.{microsMost}
 use Rattle.db_neighbours.proofs.nearest.least.Statement.{statement}
 use Rattle.db_neighbours.proofs.nearest.least.Tie as tie
 
 abbrev Inv-loop : tie.InvT-loop
-Inv-loop n ds k best₀ i₀ best i = (i ≤ k) × (k ≤ 64) × (Distance (foldl smaller best (rest k i ds)) ≡ leastOf (take n ds))
+Inv-loop n ds k best₀ i₀ best i = (i ≤ k) × (k ≤ microsMost) × (Distance (foldl smaller best (rest k i ds)) ≡ leastOf (take n ds))
 
 abbrev μ-loop : tie.MeasureT-loop
 μ-loop n ds k best₀ i₀ best i = k - i

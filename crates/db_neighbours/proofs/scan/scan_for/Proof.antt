@@ -19,13 +19,14 @@ use Rattle.lists.specs.Laws.Counted.{Gathered, gather-starts, gather-goes, gath
 use Rattle.db_neighbours.proofs.Turns.{filter-take, filter-skip, filter-end}
 use Rattle.db_neighbours.proofs.Points.{scanned}
 use borrow.Author.Needs.{needs}
+use Rattle.model.specs.Limits.{microsMost}
 use Rattle.db_neighbours.proofs.scan.scan_for.Statement.{statement}
 use Rattle.db_neighbours.proofs.scan.scan_for.Tie as tie
 
 abbrev Inv-loop : tie.InvT-loop
 Inv-loop n x dim r micros end r2 distances₀ ids₀ k₀ i₀ distances ids k i =
-    Gathered (λ (m : DbMicro). distanceTo (take dim x) (cutTo dim m .body)) 64 n end micros distances i
-    × (k ≤ i) × (length ids ≡ 64)
+    Gathered (λ (m : DbMicro). distanceTo (take dim x) (cutTo dim m .body)) microsMost n end micros distances i
+    × (k ≤ i) × (length ids ≡ microsMost)
     × (take k ids ++ map idOf (retain (isNear r (take dim x) dim) (rest end i micros)) ≡ map idOf (retain (isNear r (take dim x) dim) (take n micros)))
 
 abbrev μ-loop : tie.MeasureT-loop
@@ -38,7 +39,7 @@ loop-holds c =
       gather-starts e (omega arith) refl,
       omega arith,
       refl,
-      ap (λ (l : List DbMicro). map idOf (retain (isNear (a .r) (take (a .dim) (a .x)) (a .dim)) l)) (cut-start _ (a .n) 64 (a .t1) e (omega arith)),
+      ap (λ (l : List DbMicro). map idOf (retain (isNear (a .r) (take (a .dim) (a .x)) (a .dim)) l)) (cut-start _ (a .n) microsMost (a .t1) e (omega arith)),
     )
 
 loop-again : tie.Need-loop-again Inv-loop μ-loop

@@ -5,15 +5,16 @@ use native.Mathlib.Omega.{arith}
 use lib.ListN.{length}
 use lib.Seq.{length-take-le}
 use borrow.Author.Needs.{needs}
+use Rattle.model.specs.Limits.{microsMost}
 use Rattle.den_pool.specs.Held.{seen}
 use Rattle.den_grouping.proofs.Labelled.{roots-cut, seen-size, weights-cut, roots-low, labelled}
 use Rattle.den_grouping.proofs.groups.group_labels.Statement.{statement}
 use Rattle.den_grouping.proofs.groups.group_labels.Tie as tie
 
-pool-size : (e : tie.Start) → length (e .args .pool) ≡ 64
+pool-size : (e : tie.Start) → length (e .args .pool) ≡ microsMost
 pool-size e = omega arith
 
-labels-size : (c : tie.After-labels) → length (c .labels .result) ≡ 64
+labels-size : (c : tie.After-labels) → length (c .labels .result) ≡ microsMost
 labels-size c = search needs
 
 slice-aggregate-roots : tie.Need-slice-aggregate-roots

@@ -6,11 +6,12 @@ use lib.Ieee.{le, nan}
 use lib.ListN.{getD}
 use borrow.Author.Needs.{needs}
 use Rattle.lists.specs.Laws.Counted.{Gathered, gather-starts, gather-goes, gather-ends}
+use Rattle.model.specs.Limits.{microsMost}
 use Rattle.den_grouping.proofs.groups.reaching.Statement.{statement}
 use Rattle.den_grouping.proofs.groups.reaching.Tie as tie
 
 abbrev Inv-loop : tie.InvT-loop
-Inv-loop n mu roots sums counts₀ i₀ counts i = Gathered (λ (v : ℕ). le mu (getD sums v nan)) 64 n n roots counts i
+Inv-loop n mu roots sums counts₀ i₀ counts i = Gathered (λ (v : ℕ). le mu (getD sums v nan)) microsMost n n roots counts i
 
 abbrev μ-loop : tie.MeasureT-loop
 μ-loop n mu roots sums counts₀ i₀ counts i = n - i

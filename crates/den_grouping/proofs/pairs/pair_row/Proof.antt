@@ -7,7 +7,7 @@ use lib.ListN.{length, take}
 use borrow.Author.Needs.{needs}
 use Rattle.union_find.specs.Pairs.{pairsOf}
 use Rattle.den_pool.specs.Held.{seen}
-use Rattle.den_grouping.specs.Group.{rowAt}
+use Rattle.den_grouping.specs.Group.{pairsMost, rowAt}
 use Rattle.den_grouping.proofs.Rows.{Rowed, row-room, row-close, row-far, row-end, row-from}
 use Rattle.den_grouping.proofs.pairs.pair_row.Statement.{statement}
 use Rattle.den_grouping.proofs.pairs.pair_row.Tie as tie
@@ -28,7 +28,7 @@ abbrev turn : tie.Then1 Inv-loop μ-loop → tie.At-loop Inv-loop μ-loop
 turn c = let at-test = c .before .before .before .before .before in at-test .before
 
 -- a close pair has a place in the arrays
-room : (c : tie.Then1 Inv-loop μ-loop) → turn c .loop .k < 2016
+room : (c : tie.Then1 Inv-loop μ-loop) → turn c .loop .k < pairsMost
 room c =
     let at-test = c .before .before .before .before .before in
     let at-loop = at-test .before in

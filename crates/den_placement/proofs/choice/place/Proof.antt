@@ -3,12 +3,13 @@ use mathlib.Core.Path.{_≡_}
 use native.Mathlib.Omega.{arith}
 use lib.ListN.{length}
 use borrow.Author.Needs.{needs}
+use Rattle.model.specs.Limits.{microsMost}
 use Rattle.den_placement.proofs.Choices.{placed-potential, placed-outlier, placed-newborn, placed-nowhere}
 use Rattle.den_placement.proofs.choice.place.Statement.{statement}
 use Rattle.den_placement.proofs.choice.place.Tie as tie
 
 -- the arrays' lengths
-sizes : (e : tie.Start) → (length (e .args .potential) ≡ 64) × (length (e .args .outliers) ≡ 64) × (length (e .args .x) ≡ 15)
+sizes : (e : tie.Start) → (length (e .args .potential) ≡ microsMost) × (length (e .args .outliers) ≡ microsMost) × (length (e .args .x) ≡ 15)
 sizes e = (omega arith, omega arith, omega arith)
 
 -- the call, from the potential ones' trial

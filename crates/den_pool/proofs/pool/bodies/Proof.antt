@@ -5,11 +5,12 @@ use native.Mathlib.Omega.{arith}
 use Rattle.den_pool.specs.Held.{bodyOf}
 use Rattle.lists.specs.Laws.Counted.{Gathered, gather-starts, gather-goes, gather-ends}
 use borrow.Author.Needs.{needs}
+use Rattle.model.specs.Limits.{microsMost}
 use Rattle.den_pool.proofs.pool.bodies.Statement.{statement}
 use Rattle.den_pool.proofs.pool.bodies.Tie as tie
 
 abbrev Inv-loop : tie.InvT-loop
-Inv-loop n pool k all₀ i₀ all i = Gathered bodyOf 64 n k pool all i
+Inv-loop n pool k all₀ i₀ all i = Gathered bodyOf microsMost n k pool all i
 
 abbrev μ-loop : tie.MeasureT-loop
 μ-loop n pool k all₀ i₀ all i = k - i

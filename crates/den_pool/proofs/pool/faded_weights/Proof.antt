@@ -4,11 +4,12 @@ use native.Mathlib.Omega.{arith}
 use borrow.Author.Needs.{needs}
 use Rattle.den_pool.specs.Held.{weightOf}
 use Rattle.lists.specs.Laws.Counted.{Gathered, gather-starts, gather-goes, gather-ends}
+use Rattle.model.specs.Limits.{microsMost}
 use Rattle.den_pool.proofs.pool.faded_weights.Statement.{statement}
 use Rattle.den_pool.proofs.pool.faded_weights.Tie as tie
 
 abbrev Inv-loop : tie.InvT-loop
-Inv-loop n lambda t pool k w₀ i₀ w i = Gathered (weightOf lambda t) 64 n k pool w i
+Inv-loop n lambda t pool k w₀ i₀ w i = Gathered (weightOf lambda t) microsMost n k pool w i
 
 abbrev μ-loop : tie.MeasureT-loop
 μ-loop n lambda t pool k w₀ i₀ w i = k - i

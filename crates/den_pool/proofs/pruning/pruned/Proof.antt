@@ -5,11 +5,12 @@ use native.Mathlib.Omega.{arith}
 use borrow.Author.Needs.{needs}
 use Rattle.den_pool.specs.Pruned.{staysAs}
 use Rattle.lists.specs.Laws.Counted.{Kept, keep-starts, keep-takes, keep-drops, keep-ends, kept-length}
+use Rattle.model.specs.Limits.{microsMost}
 use Rattle.den_pool.proofs.pruning.pruned.Statement.{statement}
 use Rattle.den_pool.proofs.pruning.pruned.Tie as tie
 
 abbrev Inv-loop : tie.InvT-loop
-Inv-loop rank n params t pool₀ k i₀ count₀ pool i count = Kept (staysAs rank params t) 64 n k pool₀ pool i count
+Inv-loop rank n params t pool₀ k i₀ count₀ pool i count = Kept (staysAs rank params t) microsMost n k pool₀ pool i count
 
 abbrev μ-loop : tie.MeasureT-loop
 μ-loop rank n params t pool₀ k i₀ count₀ pool i count = k - i
