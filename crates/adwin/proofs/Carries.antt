@@ -131,7 +131,9 @@ module _ (n j : ℕ) (cs : List ℕ) (bs : List Bucket) (k : n ≤ length bs) (e
 
   -- two places merged in both arrays are merged in the row
   pub merged-both :
-      (c : ℕ) (b : Bucket) → j + 1 < n → c ≡ nextClass (getD cs (j + 1) 0) →
+      (c : ℕ) (b : Bucket) →
+      j + 1 < n →
+      c ≡ nextClass (getD cs (j + 1) 0) →
       b ≡ mergedOf (getD bs j (nothing .bucket)) (getD bs (j + 1) (nothing .bucket)) →
       without (j + 1) (take n (classed (set cs j c) (set bs j b))) ≡ pairMerged j (take n (classed cs bs))
   merged-both c b h f g =

@@ -23,7 +23,10 @@ use Rattle.adwin.specs.Inside.Lists.{oldestDropped, withHeld, withoutOld
 
 -- ---- the oldest bucket, in the arrays and in the list
 pub oldest-is :
-    (n : ℕ) (cs : List ℕ) (bs : List Bucket) (d : Bucket) (s : Sums) → 0 < n → 0 < length bs → length cs ≡ length bs →
+    (n : ℕ) (cs : List ℕ) (bs : List Bucket) (d : Bucket) (s : Sums) →
+    0 < n →
+    0 < length bs →
+    length cs ≡ length bs →
     sumsWithout s (getD bs 0 d) ≡ withoutOldest s (take n (classed cs bs))
 unfolding classed
 oldest-is zero cs bs d s h k e = absurd (omega arith)
@@ -68,8 +71,11 @@ dropped-is a d v m s q b k h e c l =
 
 -- ---- the search
 pub must-is :
-    (d : Float) (s : Sums) (g : Float) (bs : List Bucket) (r : Bool) → le (two ⊗ side) (s .width) ≡ true → g ≡ gOf d (s .width) →
-    r ≡ someFails (testOf s g) nought nought bs → r ≡ mustDrop d s bs
+    (d : Float) (s : Sums) (g : Float) (bs : List Bucket) (r : Bool) →
+    le (two ⊗ side) (s .width) ≡ true →
+    g ≡ gOf d (s .width) →
+    r ≡ someFails (testOf s g) nought nought bs →
+    r ≡ mustDrop d s bs
 unfolding mustDrop
 must-is d s g bs r h e q =
     q ∙ ap (λ (x : Float). someFails (testOf s x) nought nought bs) e

@@ -37,7 +37,12 @@ pub record Closing (a : Adwin) (p m : ℕ) (s : Adwin) (q : ℕ) : Type 0 where
 
 -- before the first move
 pub closing-starts :
-    (a : Adwin) (p m : ℕ) → length (a .buckets) ≡ places → length (a .classes) ≡ places → m + 1 ≡ a .count → a .count ≤ places → p ≤ m →
+    (a : Adwin) (p m : ℕ) →
+    length (a .buckets) ≡ places →
+    length (a .classes) ≡ places →
+    m + 1 ≡ a .count →
+    a .count ≤ places →
+    p ≤ m →
     Closing a p m a p
 closing-starts a p m b c l r h = record {
   last = l;

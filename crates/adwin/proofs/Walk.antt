@@ -115,14 +115,24 @@ module _ (a : Adwin) (n : ℕ) (s : Adwin) (i k : ℕ) (w : Carrying a n s i k) 
 
 -- the walk begins at the new bucket
 pub walk-starts :
-    (a : Adwin) → length (a .buckets) ≡ places → length (a .classes) ≡ places → (n : ℕ) → n + 1 ≡ a .count → a .count ≤ places →
+    (a : Adwin) →
+    length (a .buckets) ≡ places →
+    length (a .classes) ≡ places →
+    (n : ℕ) →
+    n + 1 ≡ a .count →
+    a .count ≤ places →
     Carrying a n a n 0
 walk-starts a b c n e r = record { within = omega arith; room = r; few = omega arith; alike = record { buckets = b; classes = c; figures = refl }; left = refl }
 
 -- the walk's end is the push
 pub walk-ends :
-    (a : Adwin) (new : Bucket) (s : Adwin) (i k : ℕ) → length (a .buckets) ≡ places → length (a .classes) ≡ places → a .count < places →
-    Carrying (storedAt a (a .count) 0 new (a .count + 1)) (a .count) s i k → i ≡ 0 → view s ≡ withHeld (view a) (pushOf (heldOf a) new)
+    (a : Adwin) (new : Bucket) (s : Adwin) (i k : ℕ) →
+    length (a .buckets) ≡ places →
+    length (a .classes) ≡ places →
+    a .count < places →
+    Carrying (storedAt a (a .count) 0 new (a .count + 1)) (a .count) s i k →
+    i ≡ 0 →
+    view s ≡ withHeld (view a) (pushOf (heldOf a) new)
 walk-ends a new s i k b c h w e =
     with-row a s (pushOf (heldOf a) new) (record { buckets = w .alike .buckets; classes = w .alike .classes; figures = w .alike .figures })
     (sym (at-oldest (storedAt a (a .count) 0 new (a .count + 1)) (a .count) s i k w e) ∙ w .left

@@ -200,8 +200,8 @@ as-pairs n k h =
 
 most : (n k : ℕ) → n ≤ microsMost → 2 * k ≤ n * (n - 1) → k ≤ linksMost
 most n k h l =
-    let g : n - 1 ≤ 63 = omega arith in
-    let e : n * (n - 1) ≤ microsMost * 63 = mul-le-mul h g in
+    let g : n - 1 ≤ microsMost - 1 = omega arith in
+    let e : n * (n - 1) ≤ microsMost * (microsMost - 1) = mul-le-mul h g in
     omega arith
 
 -- ---- room for every gain
@@ -272,8 +272,8 @@ few-taken s x e h =
     tick-cases dbstream (taking s (placed s x)) (nearestFor s x) (λ (u : State). Few (u .held))
     (omega (arith, f, retain-length (microStays (s .params .settings .lambda) (s .params .floor) (s .t ⊕ one)) (placed s x .micros))) f
 
-pub at-most-64 : (p : Settings) (xs : List (List Float)) → length (after p xs .held .micros) ≤ microsMost
-at-most-64 p xs = always dbstream hasPlace (λ (n : ℕ) (s : State). Few (s .held)) (λ n s x c e. few-taken s x e) p (omega arith) xs
+pub micros-within : (p : Settings) (xs : List (List Float)) → length (after p xs .held .micros) ≤ microsMost
+micros-within p xs = always dbstream hasPlace (λ (n : ℕ) (s : State). Few (s .held)) (λ n s x c e. few-taken s x e) p (omega arith) xs
 
 -- the claim: all there is fits
 pub fits : (p : Settings) (xs : List (List Float)) → Fits (after p xs)
@@ -301,7 +301,7 @@ fits p xs =
     join x = joining s x (f .ascending) (f .links)
 
     few : length (s .held .micros) ≤ microsMost
-    few = at-most-64 p xs
+    few = micros-within p xs
 
     pairs-are : 2 * length (s .held .links) ≤ length (s .held .micros) * (length (s .held .micros) - 1)
     pairs-are = as-pairs (length (s .held .micros)) (length (s .held .links)) (good-most (s .held .micros) (f .ascending) (s .held .links) (f .links))

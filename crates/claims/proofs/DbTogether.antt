@@ -23,7 +23,7 @@ use Rattle.claims.specs.DbClaims.{Older, Strong, StrongNumber, Step, One
 use Rattle.claims.proofs.Places.{at-below, at-there}
 use Rattle.claims.proofs.Runs.{run-params}
 use Rattle.claims.proofs.DbFresh.{from-fresh}
-use Rattle.claims.proofs.DbRoom.{at-most-64}
+use Rattle.claims.proofs.DbRoom.{micros-within}
 use Rattle.claims.proofs.DbLabels.{labels-tell}
 use Rattle.claims.proofs.DbTwins.{twin, twins}
 
@@ -112,7 +112,7 @@ stay-together p q laxer xs =
     (twins-stay (q .alpha) (q .«min_weight») (twins p q laxer xs .labels) s
     (subst (λ (c : Params). T (le (q .«min_weight») (c .settings .«min_weight»))) (sym same) (laxer .minWeight))
     (subst (λ (c : Params). T (le (q .alpha ⊗ q .«min_weight») (c .settings .alpha ⊗ c .settings .«min_weight»))) (sym same) (laxer .density))
-    (from-fresh p xs .ascending) (at-most-64 p xs))
+    (from-fresh p xs .ascending) (micros-within p xs))
   where
     s : State
     s = after p xs

@@ -22,7 +22,7 @@ use Rattle.claims.proofs.Early.{window-takes}
 use Rattle.claims.proofs.Periods.{gap-whole, prune-whole, divides, due-is}
 use Rattle.claims.proofs.DbFresh as db-fresh
 use Rattle.claims.proofs.DbFigures as db-figures
-use Rattle.claims.proofs.DbRoom.{fits, at-most-64}
+use Rattle.claims.proofs.DbRoom.{fits, micros-within}
 use Rattle.claims.proofs.DbNumbers.{never-reused}
 use Rattle.claims.proofs.DbLabels.{labels-tell}
 use Rattle.claims.proofs.DbTwins.{same-refusals, same-holdings}
@@ -61,7 +61,7 @@ dbstream =
       one = λ p opens xs. record {
         run = one-run db.dbstream db.hasPlace db-fresh.none-near (omega arith) p (gap-whole p opens) xs;
         period = gap-whole p opens;
-        labels = labels-tell (db-claim.after p xs) (db-fresh.from-fresh p xs .ascending) (at-most-64 p xs);
+        labels = labels-tell (db-claim.after p xs) (db-fresh.from-fresh p xs .ascending) (micros-within p xs);
         holdings = db-fresh.from-fresh p xs;
         figures = db-figures.figures p xs;
         fits = fits p xs;

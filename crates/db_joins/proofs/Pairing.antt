@@ -46,14 +46,22 @@ pairs-snoc (suc k) (a ∷ xs) (b ∷ ys) x y h g = ap (λ (r : List (ℕ × ℕ)
 module _ (ids : List MicroId) (strong : List Bool) (lambda t dense : Float) where
   -- the test by the places of the ends
   pub joins-by :
-      (l : Link) (x y : ℕ) (r b : Bool) → x ≡ placeAmong ids (l .lo) → y ≡ placeAmong ids (l .hi) →
-      r ≡ (getD strong x false && getD strong y false && le dense (fadedLink lambda t l)) → r ≡ b → joinsBy ids strong lambda t dense l ≡ b
+      (l : Link) (x y : ℕ) (r b : Bool) →
+      x ≡ placeAmong ids (l .lo) →
+      y ≡ placeAmong ids (l .hi) →
+      r ≡ (getD strong x false && getD strong y false && le dense (fadedLink lambda t l)) →
+      r ≡ b →
+      joinsBy ids strong lambda t dense l ≡ b
   joins-by l x y r b ex ey e h =
       ap₂ (λ (i j : ℕ). getD strong i false && getD strong j false && le dense (fadedLink lambda t l)) (sym ex) (sym ey) ∙ sym e ∙ h
 
   module _ (n i : ℕ) (ls : List Link) (z : Link) (h : i < n) (fits : n ≤ length ls) (k : ℕ) (xs ys : List ℕ) where
     pub join-take :
-        (x y : ℕ) → k < length xs → k < length ys → x ≡ placeAmong ids (getD ls i z .lo) → y ≡ placeAmong ids (getD ls i z .hi) →
+        (x y : ℕ) →
+        k < length xs →
+        k < length ys →
+        x ≡ placeAmong ids (getD ls i z .lo) →
+        y ≡ placeAmong ids (getD ls i z .hi) →
         joinsBy ids strong lambda t dense (getD ls i z) ≡ true →
         pairsOf (take (k + 1) (set xs k x)) (take (k + 1) (set ys k y)) ++ joinedBy ids strong lambda t dense (rest n (i + 1) ls)
         ≡ pairsOf (take k xs) (take k ys) ++ joinedBy ids strong lambda t dense (rest n i ls)

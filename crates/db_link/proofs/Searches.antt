@@ -36,7 +36,11 @@ module _ (id : MicroId) (n i : ℕ) (ids : List MicroId) where
 -- ---- whether a link stays
 module _ (lambda floor t : Float) (ids : List MicroId) (l : Link) where
   pub both-held :
-      (f : Float) (b : Bool) → isAmong ids (l .lo) ≡ true → isAmong ids (l .hi) ≡ true → f ≡ fadedLink lambda t l → lt f floor ≡ b →
+      (f : Float) (b : Bool) →
+      isAmong ids (l .lo) ≡ true →
+      isAmong ids (l .hi) ≡ true →
+      f ≡ fadedLink lambda t l →
+      lt f floor ≡ b →
       not b ≡ staysAmong lambda floor t ids l
   both-held f b x y e c = rw (x, y, ← e, c)
 

@@ -47,8 +47,11 @@ module _ (f : Scan) (r lambda t : Float) (next : MicroId) (x : List Float) (n : 
   Told ms′ count after = placedTold (record { micros = ms′; count = count; «next_id» = after }) ≡ placedOf f r lambda t next x n (take n ms)
 
   told :
-      (ms′ : List DbMicro) (count : ℕ) (after : MicroId) → count ≤ length ms′ →
-      take count ms′ ≡ placedAmong f r lambda t next x n (take n ms) → after ≡ nextAfter f n next → Told ms′ count after
+      (ms′ : List DbMicro) (count : ℕ) (after : MicroId) →
+      count ≤ length ms′ →
+      take count ms′ ≡ placedAmong f r lambda t next x n (take n ms) →
+      after ≡ nextAfter f n next →
+      Told ms′ count after
   told ms′ count after few is numbered =
       ap₂ (λ (l : List DbMicro) (k : ℕ). record { micros = l; count = k; «next_id» = after }) is (counts count ms′ _ few is)
       ∙ ap (λ (q : MicroId). record { micros = placed; count = length placed; «next_id» = q }) numbered
@@ -73,8 +76,12 @@ module _ (f : Scan) (r lambda t : Float) (next : MicroId) (x : List Float) (n : 
       (rw (eq-eqb (f .count) 0 none, le-ltb n microsMost most) refl)
 
   pub absorbed-placed :
-      length (f .distances) ≡ microsMost → f .count ≢ 0 → (ms′ : List DbMicro) → length ms′ ≡ microsMost →
-      take k ms′ ≡ absorbNear (r ⊗ r) (absorbs lambda t x) (take k (f .distances)) (take k ms) → Told ms′ k next
+      length (f .distances) ≡ microsMost →
+      f .count ≢ 0 →
+      (ms′ : List DbMicro) →
+      length ms′ ≡ microsMost →
+      take k ms′ ≡ absorbNear (r ⊗ r) (absorbs lambda t x) (take k (f .distances)) (take k ms) →
+      Told ms′ k next
   absorbed-placed all some ms′ size is =
       told ms′ k next (omega (arith, cut, size))
       (rw (ne-eqb (f .count) 0 some) (is ∙ ap₂ (absorbNear (r ⊗ r) (absorbs lambda t x)) (cut-take k n microsMost (f .distances) cut all) held))

@@ -31,7 +31,10 @@ module _ (n k : ℕ) (ds : List Float) (e : k ≡ min n microsMost) (l : length 
 -- ---- a filter into another array: `if p(l[i]) { out[k] = f(l[i]); k += 1; }` for i from 0
 module _ {A B : Type 0} (f : A → B) (p : A → Bool) (n i : ℕ) (l : List A) (z : A) (h : i < n) (fits : n ≤ length l) (k : ℕ) (out : List B) where
   pub filter-take :
-      (v : B) → k < length out → v ≡ f (getD l i z) → p (getD l i z) ≡ true →
+      (v : B) →
+      k < length out →
+      v ≡ f (getD l i z) →
+      p (getD l i z) ≡ true →
       take (k + 1) (set out k v) ++ map f (retain p (rest n (i + 1) l)) ≡ take k out ++ map f (retain p (rest n i l))
   unfolding retain
   filter-take v o e t = rw (rest-step n i l z, t, ← e, add-one, take-suc-set out k v, append-snoc (take k out) v)

@@ -62,9 +62,10 @@ module _ (s : DbStream) (f : Scan) (x : List Float) (next : MicroId) (ms : List 
   withHeld q l ls = taking (view s) (holds q l ls)
 
   pub placed-is :
-      take count ms
-      ≡ placedAmong f (s .params .settings .r) (s .params .settings .lambda) (s .t) (s .«next_id») x (s .count) (take (s .count) (s .micros)) →
-      next ≡ nextAfter f (s .count) (s .«next_id») → u ≡ withLinks (withMicros s next ms count) (u .links) → take n (u .links) ≡ links →
+      take count ms ≡ placedAmong f (s .params .settings .r) (s .params .settings .lambda) (s .t) (s .«next_id») x (s .count) (take (s .count) (s .micros)) →
+      next ≡ nextAfter f (s .count) (s .«next_id») →
+      u ≡ withLinks (withMicros s next ms count) (u .links) →
+      take n (u .links) ≡ links →
       view (having u (u .«next_id») (u .micros) (u .count) (u .links) n 0) ≡ placedBy s f x
   placed-is placed numbered is gained =
       ap (λ (v : DbStream). view (having v (v .«next_id») (v .micros) (v .count) (u .links) n 0)) is

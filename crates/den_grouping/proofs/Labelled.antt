@@ -54,8 +54,13 @@ roots-cut eps2 d k n end pool es roots e c h p r = r ∙ ap (rootsOf end) (p ∙
 
 -- the roots stand among the places
 pub roots-low :
-    (end : ℕ) → end ≤ microsMost → (es : List (ℕ × ℕ)) (roots : List ℕ) → roots ≡ rootsOf end es →
-    (i : ℕ) → i < microsMost → getD roots i 0 < microsMost
+    (end : ℕ) →
+    end ≤ microsMost →
+    (es : List (ℕ × ℕ)) (roots : List ℕ) →
+    roots ≡ rootsOf end es →
+    (i : ℕ) →
+    i < microsMost →
+    getD roots i 0 < microsMost
 roots-low end h es roots e i k = subst (λ (r : List ℕ). getD r i 0 < microsMost) (sym e) (roots-tell end h es .low i k)
 
 module _ (p : Params) (t : Float) (l : List DenMicro) (end : ℕ) (size : length l ≡ end) (few : end ≤ microsMost)

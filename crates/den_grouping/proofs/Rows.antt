@@ -51,7 +51,11 @@ module _ (eps2 : Float) (i : ℕ) (centre : List Float) (dim n : ℕ) (l : List 
   left-step j z h k = ap (λ (r : List DenMicro). rowFrom eps2 i centre j (map (microIn dim) r)) (rest-step n j l z h k)
 
   left-is :
-      (j : ℕ) (z : DenMicro) (v : Float) (t : Bool) → j < n → n ≤ length l → v ≡ sqDist centre (take dim (getD l j z .body .cf .mean)) → le v reach ≡ t →
+      (j : ℕ) (z : DenMicro) (v : Float) (t : Bool) →
+      j < n →
+      n ≤ length l →
+      v ≡ sqDist centre (take dim (getD l j z .body .cf .mean)) →
+      le v reach ≡ t →
       left j ≡ cond t ((i, j) ∷ left (j + 1)) (left (j + 1))
   left-is j z v t h k e w = left-step j z h k ∙ ap (λ (b : Bool). cond b ((i, j) ∷ left (j + 1)) (left (j + 1))) (ap (λ (d : Float). le d reach) (sym e) ∙ w)
 

@@ -20,8 +20,11 @@ use Rattle.den_pool.specs.Held.{withDim}
 
 -- a answers what both streams ask; above says whether beta * mu is above 1
 pub asked-of :
-    (p : Settings) (a : Opening) (others above : Bool) → a ≡ firstNo (questions (p .dim) (p .eps) (p .lambda) (p .beta) (p .mu)) Open →
-    isOpen a ≡ others → lt one (bmOf (p .beta) (p .mu)) ≡ above → cond others (cond above Open BetaMu) a ≡ asked p
+    (p : Settings) (a : Opening) (others above : Bool) →
+    a ≡ firstNo (questions (p .dim) (p .eps) (p .lambda) (p .beta) (p .mu)) Open →
+    isOpen a ≡ others →
+    lt one (bmOf (p .beta) (p .mu)) ≡ above →
+    cond others (cond above Open BetaMu) a ≡ asked p
 unfolding stream.asked
 asked-of p =
     one-more (lt one (bmOf (p .beta) (p .mu)), BetaMu) (questions (p .dim) (p .eps) (p .lambda) (p .beta) (p .mu))

@@ -86,7 +86,10 @@ module _ {s : DenStream} {p : Placement} {np no : ℕ} (c : Counted s p np no) w
       (laws.outlier-absorbs (dimOf s) (s .potential) (s .«potential_count») (s .outliers) (s .«outlier_count») (p .target) (p .place) (p .micro) e)
 
   pub to-promotion :
-      p .target ≡ Promotion → (rest : Pool) → held rest ≡ without (p .place) (take no (s .outliers)) → rest .count ≡ length (held rest) →
+      p .target ≡ Promotion →
+      (rest : Pool) →
+      held rest ≡ without (p .place) (take no (s .outliers)) →
+      rest .count ≡ length (held rest) →
       view (over s (set (s .potential) np (p .micro)) (np + 1) (rest .micros) (rest .count)) ≡ placedBy s p
   unfolding heldIn
   to-promotion e rest el cl =

@@ -37,8 +37,13 @@ unfolding linesOf
 no-lines t ids labels l = record { added = nothing t l; within = record { is = omega arith } }
 
 pub lines-more :
-    {t u v : Text} {label : ℤ} (i : ℕ) (ids : List MicroId) (labels : List ℤ) (d : MicroId) (z : ℤ) → i < length ids → i < length labels →
-    Lined t ids labels i u → Added u (lineOf (getD ids i d) label) v → Within (lineOf (getD ids i d) label) 43 → label ≡ getD labels i z →
+    {t u v : Text} {label : ℤ} (i : ℕ) (ids : List MicroId) (labels : List ℤ) (d : MicroId) (z : ℤ) →
+    i < length ids →
+    i < length labels →
+    Lined t ids labels i u →
+    Added u (lineOf (getD ids i d) label) v →
+    Within (lineOf (getD ids i d) label) 43 →
+    label ≡ getD labels i z →
     Lined t ids labels (i + 1) v
 lines-more {t} {u} {v} {label} i ids labels d z h k p q w e =
     let line = lineOf (getD ids i d) label in

@@ -30,14 +30,19 @@ use Rattle.families_lines.specs.Lines.{linesOf, lastLine}
 use Rattle.families_text.specs.Families.{clusterText}
 
 pub few-ids :
-    (s : State) (n : ℕ) (ids : List MicroId) → length ids ≡ microsMost → n ≡ length (s .held .micros) →
-    take (length (s .held .micros)) ids ≡ map idOf (s .held .micros) → n ≤ microsMost
+    (s : State) (n : ℕ) (ids : List MicroId) →
+    length ids ≡ microsMost →
+    n ≡ length (s .held .micros) →
+    take (length (s .held .micros)) ids ≡ map idOf (s .held .micros) →
+    n ≤ microsMost
 few-ids s n ids l c e = omega (arith, ap length e, map-length idOf (s .held .micros), length-take (length (s .held .micros)) ids)
 
 -- the creation numbers of an array's micro-clusters are the view's
 pub ids-are :
     (s : DbStream) (n : ℕ) (ids : List MicroId) →
-    n ≡ length (view s .held .micros) → length (s .micros) ≡ microsMost → take n ids ≡ map idOf (take n (s .micros)) →
+    n ≡ length (view s .held .micros) →
+    length (s .micros) ≡ microsMost →
+    take n ids ≡ map idOf (take n (s .micros)) →
     take (length (view s .held .micros)) ids ≡ map idOf (view s .held .micros)
 ids-are s n ids c l e =
     let k : n ≡ min (s .count) microsMost =
@@ -73,7 +78,10 @@ pub record Reads (s : State) (n : ℕ) (ids : List MicroId) (answer : ReadOut) (
 
 pub text-is :
     (s u : State) (n : ℕ) (ids : List MicroId) (answer : ReadOut) (labels lent : List ℤ) (report : DriftReport) →
-    length ids ≡ microsMost → length lent ≡ microsMost → u ≡ clusterOf s → Reads u n ids answer labels lent report →
+    length ids ≡ microsMost →
+    length lent ≡ microsMost →
+    u ≡ clusterOf s →
+    Reads u n ids answer labels lent report →
     linesOf (take n ids) (take n labels) ++ lastLine report ≡ clusterText s
 text-is s u n ids answer labels lent report l k e r = go (subst (λ (v : State). Reads v n ids answer labels lent report) e r)
   where

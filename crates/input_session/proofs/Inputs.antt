@@ -22,7 +22,11 @@ module _ (bytes : List ℕ) (at dim : ℕ) (x : List Float) (i : ℕ) where
   Partly = take i x ++ doublesFrom (dim - i) bytes (at + i * 8) ≡ doublesFrom dim bytes at
 
   pub read-step :
-      Partly → i < dim → i < length x → (v : Float) → v ≡ doubleAt bytes (at + i * 8) →
+      Partly →
+      i < dim →
+      i < length x →
+      (v : Float) →
+      v ≡ doubleAt bytes (at + i * 8) →
       take (i + 1) (set x i v) ++ doublesFrom (dim - (i + 1)) bytes (at + (i + 1) * 8) ≡ doublesFrom dim bytes at
   unfolding doublesFrom
   read-step e h l v q =

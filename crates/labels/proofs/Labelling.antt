@@ -124,7 +124,10 @@ module _ (mask : List Bool) (roots : List ℕ) (end : ℕ) (labels : List ℤ) (
 
   -- a root met for the first time
   pub label-new :
-      getD mask i false ≡ true → (k : ℕ) → k ≡ placeIn v us → k ≡ count →
+      getD mask i false ≡ true →
+      (k : ℕ) →
+      k ≡ placeIn v us →
+      k ≡ count →
       Labelling mask roots end (set labels i (pos k)) (set met k v) (count + 1) (i + 1)
   label-new e k ek n =
       subst (λ (q : ℕ). Labelling mask roots end (set labels i (pos k)) (set met q v) (count + 1) (i + 1)) (sym n)
@@ -138,7 +141,9 @@ module _ (mask : List Bool) (roots : List ℕ) (end : ℕ) (labels : List ℤ) (
 
 -- all labels are written
 pub labels-end :
-    (mask : List Bool) (roots : List ℕ) (n end : ℕ) (labels : List ℤ) (met : List ℕ) (count : ℕ) → end ≡ min n places → length mask ≡ places →
+    (mask : List Bool) (roots : List ℕ) (n end : ℕ) (labels : List ℤ) (met : List ℕ) (count : ℕ) →
+    end ≡ min n places →
+    length mask ≡ places →
     Labelling mask roots end labels met count end →
     labels ≡ labelsIn roots mask n
 unfolding labelsIn labelsFrom

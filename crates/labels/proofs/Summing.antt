@@ -84,7 +84,9 @@ module _ (roots : List ℕ) (weights : List Float) (end : ℕ) (sums : List Floa
 
 -- all weights are added
 pub sums-end :
-    (roots : List ℕ) (weights : List Float) (n end : ℕ) (sums : List Float) → end ≡ min n places → length weights ≡ places →
+    (roots : List ℕ) (weights : List Float) (n end : ℕ) (sums : List Float) →
+    end ≡ min n places →
+    length weights ≡ places →
     Summing roots weights end sums end →
     sums ≡ sumsOf roots (take n weights)
 unfolding sumsOf

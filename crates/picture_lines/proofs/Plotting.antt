@@ -16,15 +16,21 @@ use Rattle.picture_lines.specs.Plot.{upwardOf, sixty, cellOf, placeOf, i
 -- one more
 pub mark-more :
     (up : Upward) (at : ℕ → Row) (i : ℕ) (plot next : Plot) (row : Row) →
-    plot ≡ plotOf up at i → row ≡ at i → next ≡ marked up plot row → next ≡ plotOf up at (i + 1)
+    plot ≡ plotOf up at i →
+    row ≡ at i →
+    next ≡ marked up plot row →
+    next ≡ plotOf up at (i + 1)
 unfolding plotOf
 mark-more up at i plot next row e r m = m ∙ ap₂ (marked up) e r ∙ ap (plotOf up at) (sym (add-one i))
 
 -- the two cells make the place
 pub placed :
     (up : Upward) (row : Row) (low step : ℕ) (x : Float) (line column : ℕ) →
-    low ≡ lowOf up → step ≡ stepOf up → x ≡ upwardOf up row →
-    line ≡ cellOf (whole low) (whole step) 20 x → column ≡ cellOf (neg sixty) two 62 (row .rate) →
+    low ≡ lowOf up →
+    step ≡ stepOf up →
+    x ≡ upwardOf up row →
+    line ≡ cellOf (whole low) (whole step) 20 x →
+    column ≡ cellOf (neg sixty) two 62 (row .rate) →
     (line * 63 + column ≡ placeOf up row) × (line * 63 + column < 1323)
 placed up row low step x line column l s f e g =
     let height : line ≡ cellOf (whole (lowOf up)) (whole (stepOf up)) 20 (upwardOf up row) = rw (← l, ← s, ← f) e in

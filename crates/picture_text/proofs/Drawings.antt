@@ -20,9 +20,12 @@ abbrev read : State → LabelsRead
 read s = labelsReadOf s (replicate microsMost (negsuc 0))
 
 pub drawing :
-    (s u : State) (n : ℕ) (figures : Statistics) (labels : LabelsRead) (report : DriftReport) → u ≡ clusterOf s → n ≡ length (u .held .micros) →
+    (s u : State) (n : ℕ) (figures : Statistics) (labels : LabelsRead) (report : DriftReport) →
+    u ≡ clusterOf s →
+    n ≡ length (u .held .micros) →
     figures ≡ figuresOf u →
-    labels ≡ labelsReadOf u (replicate microsMost (negsuc 0)) → report ≡ reportOf (u .drift) →
+    labels ≡ labelsReadOf u (replicate microsMost (negsuc 0)) →
+    report ≡ reportOf (u .drift) →
     pageOf (min n microsMost) (figures .centres) (figures .weights) (labels .labels) (report .alarms) ≡ drawnOf s
 unfolding drawnOf
 drawing s u n figures labels report e count stats told drift =

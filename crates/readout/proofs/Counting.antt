@@ -42,7 +42,13 @@ module _ (n i : ℕ) (l : List ℤ) where
 
   -- y is the label at i, as the code holds it
   pub count-step :
-      (y : ℤ) → y ≡ getD l i (pos 0) → (r s : Bool) → sameFamily y y ≡ r → any (sameFamily y) (rest n (i + 1) l) ≡ s → i < n → n ≤ length l →
+      (y : ℤ) →
+      y ≡ getD l i (pos 0) →
+      (r s : Bool) →
+      sameFamily y y ≡ r →
+      any (sameFamily y) (rest n (i + 1) l) ≡ s →
+      i < n →
+      n ≤ length l →
       clustersIn (rest n i l) ≡ cond (r && not s) 1 0 + clustersIn (rest n (i + 1) l)
   unfolding clustersIn
   count-step y e r s er es h k = rw (rest-step n i l (pos 0) h k, ← e, er, es)

@@ -23,7 +23,11 @@ module _ (dim n w : ℕ) (e : w ≡ min dim maxDim) (r2 : Float) (bodies : List 
 
   -- y is the point out of the places that it was copied to
   pub predict-label :
-      (y ds : List Float) (label : ℤ) → length x ≡ w → y ≡ x → ds ≡ map (distanceIn w y) (take n bodies) → label ≡ labelAmong r2 ds labels →
+      (y ds : List Float) (label : ℤ) →
+      length x ≡ w →
+      y ≡ x →
+      ds ≡ map (distanceIn w y) (take n bodies) →
+      label ≡ labelAmong r2 ds labels →
       gives label ≡ predictOf (min dim maxDim) r2 (seen dim n bodies) labels x
   predict-label y ds label h point eds el =
       ap gives (el ∙ label-measured r2 labels (seen dim n bodies) x ds measured) ∙ sym (rw (eq-eqb (length x) (min dim maxDim) (h ∙ e)))

@@ -59,7 +59,10 @@ module _ (lambda t : Float) {bodies : List Body} {n end dim w : ℕ} (q : Counte
     all = statisticsTold Written (written (centresOf due) centres) (written (map (fadedWeight lambda t) due) weights) (written (map radiusOf due) radii)
 
     read-by :
-        (a b c : Bool) → leb (end * w) (length centres) ≡ a → leb end (length weights) ≡ b → leb end (length radii) ≡ c →
+        (a b c : Bool) →
+        leb (end * w) (length centres) ≡ a →
+        leb end (length weights) ≡ b →
+        leb end (length radii) ≡ c →
         statisticsRead lambda t due centres weights radii ≡ cond (a && b && c) all (statisticsTold TooShort centres weights radii)
     read-by a b c ea eb ec =
         ap (λ (t : Bool). cond t all (statisticsTold TooShort centres weights radii))
@@ -81,8 +84,11 @@ module _ (lambda t : Float) {bodies : List Body} {n end dim w : ℕ} (q : Counte
         short-radii h = sym (read-by true true false (le-leb (end * w) (length centres) hc) (le-leb end (length weights) hw) (lt-leb end (length radii) h))
 
         pub all-written :
-            end ≤ length radii → (c f r : List Float) → c ≡ written (centresDue w end bodies) centres →
-            f ≡ written (map (fadedWeight lambda t) (take end bodies)) weights → r ≡ written (map radiusOf (take end bodies)) radii →
+            end ≤ length radii →
+            (c f r : List Float) →
+            c ≡ written (centresDue w end bodies) centres →
+            f ≡ written (map (fadedWeight lambda t) (take end bodies)) weights →
+            r ≡ written (map radiusOf (take end bodies)) radii →
             statisticsTold Written c f r ≡ statisticsRead lambda t due centres weights radii
         all-written hr c f r ec ef er =
             ap₃

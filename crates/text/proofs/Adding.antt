@@ -14,7 +14,9 @@ use Rattle.text.specs.Text.{room, Added}
 
 -- one byte more
 pub byte-more :
-    (before : List ℕ) (at : ℕ) (piece bytes : List ℕ) (i : ℕ) → at + i < length bytes → i < length piece →
+    (before : List ℕ) (at : ℕ) (piece bytes : List ℕ) (i : ℕ) →
+    at + i < length bytes →
+    i < length piece →
     take (at + i) bytes ≡ take at before ++ take i piece →
     take (at + (i + 1)) (set bytes (at + i) (getD piece i 0)) ≡ take at before ++ take (i + 1) piece
 byte-more before at piece bytes i h k e =
@@ -32,7 +34,10 @@ short m n p e = by-cases (decLe (length p) m)
 
 -- what is left of the piece finds no room
 cut-piece :
-    (a p : List ℕ) (at n : ℕ) → length a ≡ at → at ≤ room → n ≡ min (length p) (room - at) →
+    (a p : List ℕ) (at n : ℕ) →
+    length a ≡ at →
+    at ≤ room →
+    n ≡ min (length p) (room - at) →
     take room (a ++ take n p) ≡ take room (a ++ p)
 cut-piece a p at n l h e =
     let r : room ≡ length a + (room - at) = omega arith in

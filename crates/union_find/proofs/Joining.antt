@@ -74,7 +74,12 @@ seek-start n hn es u e =
 
 -- one root more is noted
 pub seek-next :
-    (p₀ p roots : List ℕ) (i : ℕ) → Seeking p₀ p roots i → i < places → (x : ℕ) (q : List ℕ) → x ≡ findOf p i .root → q ≡ findOf p i .parent →
+    (p₀ p roots : List ℕ) (i : ℕ) →
+    Seeking p₀ p roots i →
+    i < places →
+    (x : ℕ) (q : List ℕ) →
+    x ≡ findOf p i .root →
+    q ≡ findOf p i .parent →
     Seeking p₀ q (set roots i x) (i + 1)
 seek-next p₀ p roots i s hi x q ex eq =
     subst (λ (q : List ℕ). Seeking p₀ q (set roots i x) (i + 1)) (sym eq)
@@ -95,7 +100,12 @@ seek-next p₀ p roots i s hi x q ex eq =
 
 -- all roots are noted
 pub seek-end :
-    (n m : ℕ) → m ≡ min n places → (es : List (ℕ × ℕ)) (u : UnionFind) → u ≡ joinAll m newOf es → (p roots : List ℕ) → Seeking (u .parent) p roots places →
+    (n m : ℕ) →
+    m ≡ min n places →
+    (es : List (ℕ × ℕ)) (u : UnionFind) →
+    u ≡ joinAll m newOf es →
+    (p roots : List ℕ) →
+    Seeking (u .parent) p roots places →
     roots ≡ rootsOf n es
 unfolding rootsOf
 seek-end n m em es u e p roots s =

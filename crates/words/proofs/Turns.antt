@@ -29,7 +29,11 @@ unfolding littleEndian
 one-more n a b v bytes e p = rw (← e, ← p) (omega arith)
 
 pub byte-read :
-    (bytes : List ℕ) (at value k b : ℕ) → Read bytes at value k → 0 < k → b ≡ getD bytes (at + (k - 1)) 0 → b < 256 →
+    (bytes : List ℕ) (at value k b : ℕ) →
+    Read bytes at value k →
+    0 < k →
+    b ≡ getD bytes (at + (k - 1)) 0 →
+    b < 256 →
     Read bytes at (value * 256 + b) (k - 1)
 byte-read bytes at value k b r h e s =
     let n : 8 - (k - 1) ≡ suc (8 - k) = omega (arith, r .few) in

@@ -28,7 +28,12 @@ module _ (w : Window) (x : Float) where
   update-cases P a b c d = go (isFinite x) refl (hasRoom w) refl (due w) refl
     where
       go :
-          (f : Bool) → isFinite x ≡ f → (r : Bool) → hasRoom w ≡ r → (t : Bool) → due w ≡ t →
+          (f : Bool) →
+          isFinite x ≡ f →
+          (r : Bool) →
+          hasRoom w ≡ r →
+          (t : Bool) →
+          due w ≡ t →
           P (cond f (cond r (cond t (shrunk (grown w x)) (quiet (grown w x))) (full w)) (quiet w))
           (cond (f && (r && t)) (searchOf (w .delta) (grown w x .sums) (grown w x .held) .dropped) [])
       go false e r h t i = a e

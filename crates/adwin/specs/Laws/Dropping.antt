@@ -20,7 +20,10 @@ pub record Split (held : List Classed) (r : Searched) : Type 0 where
 
 -- a search keeps the order, and its width stays exact
 pub splits :
-    (d : Float) (s : Sums) (held : List Classed) → s .width ≡ whole (valuesIn held) → Sized held → valuesIn held ≤ limit →
+    (d : Float) (s : Sums) (held : List Classed) →
+    s .width ≡ whole (valuesIn held) →
+    Sized held →
+    valuesIn held ≤ limit →
     Split held (searchOf d s held)
 unfolding searchOf
 splits d s [] e z m = record { parts = refl; width = e }

@@ -88,7 +88,13 @@ module _ (k : ℕ) (y x : Classed) (l : List Classed) (h : k < cap) (e : y .buck
       }
 
   step :
-      (a : Bool) → eqb (x .class) (y .class) ≡ a → (b : Bool) → ltb cap (k + 2) ≡ b → Stacked (y .class) k (x ∷ l) → PairGoes → NextGoes →
+      (a : Bool) →
+      eqb (x .class) (y .class) ≡ a →
+      (b : Bool) →
+      ltb cap (k + 2) ≡ b →
+      Stacked (y .class) k (x ∷ l) →
+      PairGoes →
+      NextGoes →
       Carried k y (x ∷ l) (cond a (cond b (carry 0 (pairOf x y) l) (y ∷ carry (k + 1) x l)) (y ∷ x ∷ l))
   step false p b q (same f g t) ip iq = absurd (eqb-false (x .class) (y .class) p f)
   step false p b q (next g t) ip iq = record { stacked = same refl h (next g t); sized = (e, z); values = refl }
@@ -97,8 +103,13 @@ module _ (k : ℕ) (y x : Classed) (l : List Classed) (h : k < cap) (e : y .buck
   step true p false q (same f g t) ip iq = next-carried f t (ltb-false cap (k + 2) q) iq
 
 carried :
-    (k : ℕ) (y : Classed) (older : List Classed) → k < cap → Stacked (y .class) k older → y .bucket .size ≡ whole (2 ^ y .class) → Sized older →
-    2 ^ y .class + valuesIn older ≤ limit → Carried k y older (carry k y older)
+    (k : ℕ) (y : Classed) (older : List Classed) →
+    k < cap →
+    Stacked (y .class) k older →
+    y .bucket .size ≡ whole (2 ^ y .class) →
+    Sized older →
+    2 ^ y .class + valuesIn older ≤ limit →
+    Carried k y older (carry k y older)
 unfolding carry
 carried k y [] h s e z m = record { stacked = same refl h none; sized = (e, tt); values = refl }
 carried k y (x ∷ l) h s e z m =

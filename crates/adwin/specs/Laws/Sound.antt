@@ -99,7 +99,9 @@ module _ (w : Window) (x : Float) (s : Sound w) where
       record { sound = g .0; taken = rw e (omega (arith, room-taken w h)); sized = tt; values = omega (arith, g .1); rings = refl }
 
   searched :
-      isFinite x ≡ true → hasRoom w ≡ true → due w ≡ true →
+      isFinite x ≡ true →
+      hasRoom w ≡ true →
+      due w ≡ true →
       Step w x (shrunk (grown w x)) (searchOf (w .delta) (grown w x .sums) (grown w x .held) .dropped)
   unfolding grown shrunk
   searched e h i =

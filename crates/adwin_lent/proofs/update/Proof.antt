@@ -109,8 +109,12 @@ module _ {M : Type 1} (𝓤 : URA M) (H : Heap 𝓤) (A : Atoms 𝓤) (W : Given
   kept : (r : Updated) → Is O.the-row r (outs r) → Is T.the-row (r .window) (vals (r .window))
   kept r is = LL.owed O.the-type O′.the-laws r (outs r) is .1 .0
 
-  exits : (r : Updated) → fits binary64 n ≡ true → Is O.the-row r (outs r) → Told h n r
-      → ent 𝓤 (sep 𝓤 (A .obs γ (T.the-row .coded .code (r .window))) (sep 𝓤 (A .bor κ (Body (mem T.the-row) b o γ)) (A .lft κ q)))
+  exits :
+      (r : Updated) →
+      fits binary64 n ≡ true →
+      Is O.the-row r (outs r) →
+      Told h n r →
+      ent 𝓤 (sep 𝓤 (A .obs γ (T.the-row .coded .code (r .window))) (sep 𝓤 (A .bor κ (Body (mem T.the-row) b o γ)) (A .lft κ q)))
       (Post (EL.val S.the-type S′.the-laws (r .answer)))
   exits r ok is e =
       qed W (‵ (fobs γ (T.the-row .coded .code (r .window))) ∷ ‵ (fbor κ (Body (mem T.the-row) b o γ)) ∷ ‵ (flft κ q) ∷ []) ∵

@@ -39,8 +39,11 @@ pub record Carrying (lambda t : Float) (ids : List MicroId) (k : ℕ) (goal ls :
   pub live : s .walk .j < k
   pub fewer : (v : Walk) → v ≡ nextOf ids k t (s .walk) → pairsLeft ids k v < pairsLeft ids k (s .walk)
   pub goes :
-      (ls′ : List Link) (v : Walk) → v ≡ nextOf ids k t (s .walk) → length ls′ ≡ linksMost →
-      take (s .count + 1) ls′ ≡ take (s .at) ls ++ s .carry ∷ rest (s .count) (s .at) ls → Walking lambda t ids k goal ls′ (s .count + 1) v
+      (ls′ : List Link) (v : Walk) →
+      v ≡ nextOf ids k t (s .walk) →
+      length ls′ ≡ linksMost →
+      take (s .count + 1) ls′ ≡ take (s .at) ls ++ s .carry ∷ rest (s .count) (s .at) ls →
+      Walking lambda t ids k goal ls′ (s .count + 1) v
 
 -- the factor kept is right, and the walk goes on or a link is carried; ls is the array of links; goal is the list that all gains make
 abbrev pub Passing : (lambda t : Float) (ids : List MicroId) (k : ℕ) (goal ls : List Link) → Pass → Type 0
@@ -55,7 +58,10 @@ toGo ids k s = pairsLeft ids k (s .walk) * (linksMost + linksMost + 2) + cond (s
 -- before the first turn
 pub starts :
     (lambda t : Float) (ids : List MicroId) (many k : ℕ) (ls : List Link) (count : ℕ) (s : Pass) →
-    length ids ≡ microsMost → k ≡ min many microsMost → length ls ≡ linksMost → s ≡ passFrom ids count lambda t →
+    length ids ≡ microsMost →
+    k ≡ min many microsMost →
+    length ls ≡ linksMost →
+    s ≡ passFrom ids count lambda t →
     Passing lambda t ids k (foldl (gainOf lambda t) (take count ls) (pairsOf (take many ids))) ls s
 starts lambda t ids many k ls count s all among size is =
     subst (Passing lambda t ids k (foldl (gainOf lambda t) (take count ls) (pairsOf (take many ids))) ls) (sym is)
@@ -127,7 +133,10 @@ module _ (lambda t : Float) (ids : List MicroId) (k : ℕ) (goal ls : List Link)
 
       module _ (here : s .walk .p < s .count → q ≡ s .walk .p) where
         met :
-            (a b c : Bool) → ltb (s .walk .p) (s .count) ≡ a → before (getD ls q z) (s .walk .key) ≡ b → sameEnds (getD ls q z) (s .walk .key) ≡ c →
+            (a b c : Bool) →
+            ltb (s .walk .p) (s .count) ≡ a →
+            before (getD ls q z) (s .walk .key) ≡ b →
+            sameEnds (getD ls q z) (s .walk .key) ≡ c →
             Goes q (cond a (cond b (passedOf s (getD ls q z)) (cond c (gainedOf lambda t s (getD ls q z)) (insertedOf lambda t s (getD ls q z))))
             (insertedOf lambda t s (getD ls q z)))
         met true true c ea eb ec =
@@ -250,8 +259,13 @@ module _ (lambda t : Float) (ids : List MicroId) (k : ℕ) (goal ls : List Link)
 
   -- a turn keeps what holds, and the measure falls
   pub stepped :
-      Passing lambda t ids k goal ls s → s .walk .j < k → (z : Link) (q : ℕ) → q ≡ placeOf s →
-      (r : Step) → r ≡ stepOf lambda t ids k s (getD ls q z) → Kept (set ls q (r .link)) (r .pass)
+      Passing lambda t ids k goal ls s →
+      s .walk .j < k →
+      (z : Link) (q : ℕ) →
+      q ≡ placeOf s →
+      (r : Step) →
+      r ≡ stepOf lambda t ids k s (getD ls q z) →
+      Kept (set ls q (r .link)) (r .pass)
   stepped p live z q eq r er = subst (λ (v : Step). Kept (set ls q (v .link)) (v .pass)) (sym er) (go (u .gained) refl)
     where
       u : Turn

@@ -121,7 +121,11 @@ stored n p ls new h fits =
 
 -- the link at p stands after the key, or the list ends before p
 pub absent-at :
-    (k : Link) (n p : ℕ) (ls : List Link) (z : Link) → p < n → n ≤ length ls → before (getD ls p z) k ≡ false → sameEnds (getD ls p z) k ≡ false →
+    (k : Link) (n p : ℕ) (ls : List Link) (z : Link) →
+    p < n →
+    n ≤ length ls →
+    before (getD ls p z) k ≡ false →
+    sameEnds (getD ls p z) k ≡ false →
     Absent k (rest n p ls)
 absent-at k n p ls z h fits e f = subst (Absent k) (sym (rest-step n p ls z h fits)) (e, f)
 
@@ -175,9 +179,15 @@ module _ {lambda t : Float} {ids : List MicroId} {k : ℕ} {goal ls : List Link}
 
     -- the next pair is at (i, j)
     advance-to :
-        (ls′ : List Link) (n′ i j : ℕ) → length ls′ ≡ linksMost → n′ ≤ linksMost → w .p ≤ n′ → take (w .p) ls′ ≡ take (w .p) ls →
+        (ls′ : List Link) (n′ i j : ℕ) →
+        length ls′ ≡ linksMost →
+        n′ ≤ linksMost →
+        w .p ≤ n′ →
+        take (w .p) ls′ ≡ take (w .p) ls →
         take n′ ls′ ≡ gainIn lambda t (hasRoom (take n ls)) (w .key) (take n ls) →
-        i < j → (j < k) ⊎ (j ≡ i + 1) → pairsFrom k ids (w .i) (w .j) ≡ pairOf (idAt ids (w .i)) (idAt ids (w .j)) ∷ pairsFrom k ids i j →
+        i < j →
+        (j < k) ⊎ (j ≡ i + 1) →
+        pairsFrom k ids (w .i) (w .j) ≡ pairOf (idAt ids (w .i)) (idAt ids (w .j)) ∷ pairsFrom k ids i j →
         Walking lambda t ids k goal ls′ n′ (walkTo ids t w i j)
     advance-to ls′ n′ i j size count place same gain pair row pairs =
         record {
@@ -209,8 +219,14 @@ module _ {lambda t : Float} {ids : List MicroId} {k : ℕ} {goal ls : List Link}
         rw (a, b, le-ltb (w .j + 1) k h)
 
     advance :
-        (ls′ : List Link) (n′ : ℕ) (v : Walk) → v ≡ nextOf ids k t w → length ls′ ≡ linksMost → n′ ≤ linksMost → w .p ≤ n′ → take (w .p) ls′ ≡ take (w .p) ls →
-        take n′ ls′ ≡ gainIn lambda t (hasRoom (take n ls)) (w .key) (take n ls) → Walking lambda t ids k goal ls′ n′ v
+        (ls′ : List Link) (n′ : ℕ) (v : Walk) →
+        v ≡ nextOf ids k t w →
+        length ls′ ≡ linksMost →
+        n′ ≤ linksMost →
+        w .p ≤ n′ →
+        take (w .p) ls′ ≡ take (w .p) ls →
+        take n′ ls′ ≡ gainIn lambda t (hasRoom (take n ls)) (w .key) (take n ls) →
+        Walking lambda t ids k goal ls′ n′ v
     advance ls′ n′ v is size count place same gain =
         by-cases (decLt (w .j + 1) k)
         (λ h. subst (Walking lambda t ids k goal ls′ n′) (sym (is ∙ next-here h))
@@ -223,7 +239,11 @@ module _ {lambda t : Float} {ids : List MicroId} {k : ℕ} {goal ls : List Link}
 
     -- the link at p has the key's ends
     pub step-same :
-        (z : Link) (v : Walk) → v ≡ nextOf ids k t w → w .p < n → before (getD ls (w .p) z) (w .key) ≡ false → sameEnds (getD ls (w .p) z) (w .key) ≡ true →
+        (z : Link) (v : Walk) →
+        v ≡ nextOf ids k t w →
+        w .p < n →
+        before (getD ls (w .p) z) (w .key) ≡ false →
+        sameEnds (getD ls (w .p) z) (w .key) ≡ true →
         Walking lambda t ids k goal (set ls (w .p) (gains lambda t (getD ls (w .p) z))) n v
     step-same z v next h e f =
         let room : Bool = hasRoom (take n ls) in
@@ -237,8 +257,13 @@ module _ {lambda t : Float} {ids : List MicroId} {k : ℕ} {goal ls : List Link}
 
     -- the key's link is inserted at p
     pub step-after :
-        (ls′ : List Link) (v : Walk) → v ≡ nextOf ids k t w → Absent (w .key) (rest n (w .p) ls) → n < linksMost → length ls′ ≡ linksMost →
-        take (n + 1) ls′ ≡ take (w .p) ls ++ gains lambda t (w .key) ∷ rest n (w .p) ls → Walking lambda t ids k goal ls′ (n + 1) v
+        (ls′ : List Link) (v : Walk) →
+        v ≡ nextOf ids k t w →
+        Absent (w .key) (rest n (w .p) ls) →
+        n < linksMost →
+        length ls′ ≡ linksMost →
+        take (n + 1) ls′ ≡ take (w .p) ls ++ gains lambda t (w .key) ∷ rest n (w .p) ls →
+        Walking lambda t ids k goal ls′ (n + 1) v
     step-after ls′ v next e free size put =
         let a : w .p ≤ n + 1 = omega (arith, s .place) in
         let b : w .p ≤ length ls = omega (arith, s .place, fits-links) in

@@ -48,7 +48,9 @@ pub record Absorbing (r2 : Float) (f : DbMicro → DbMicro) (n : ℕ) (ds : List
   pub left : take i ms ++ absorbNear r2 f (rest n i ds) (rest n i ms) ≡ absorbNear r2 f (take n ds) (take n ms₀)
 
 pub absorbing-starts :
-    (r2 : Float) (f : DbMicro → DbMicro) (n : ℕ) (ds : List Float) (ms : List DbMicro) → n ≤ microsMost → length ds ≡ microsMost →
+    (r2 : Float) (f : DbMicro → DbMicro) (n : ℕ) (ds : List Float) (ms : List DbMicro) →
+    n ≤ microsMost →
+    length ds ≡ microsMost →
     length ms ≡ microsMost →
     Absorbing r2 f n ds ms ms 0
 absorbing-starts r2 f n ds ms h d m =

@@ -107,7 +107,10 @@ module _ (d : ℕ) (potential : List DenMicro) (potentialCount : ℕ) (outliers 
       promotion-low e = omega (arith, promotion-place e)
 
       pub promotes :
-          target ≡ Promotion → (rest : Pool) → held rest ≡ without place (take ko outliers) → rest .count ≡ length (held rest) →
+          target ≡ Promotion →
+          (rest : Pool) →
+          held rest ≡ without place (take ko outliers) →
+          rest .count ≡ length (held rest) →
           poolsOf d (set potential np m) (np + 1) (rest .micros) (rest .count) ≡ pooledAt target place (microIn d m) s
       promotes e rest el cl =
           let q : place < ko = promotion-place e in
@@ -134,8 +137,11 @@ module _ (d : ℕ) (potential : List DenMicro) (potentialCount : ℕ) (outliers 
 
     -- a pruning of both pools
     pub prunes :
-        (p : Params) (t : Float) (a b : Pool) → held a ≡ retain (potentialStays p t) (take np potential) → a .count ≡ length (held a) →
-        held b ≡ retain (outlierStays p t) (take ko outliers) → b .count ≡ length (held b) →
+        (p : Params) (t : Float) (a b : Pool) →
+        held a ≡ retain (potentialStays p t) (take np potential) →
+        a .count ≡ length (held a) →
+        held b ≡ retain (outlierStays p t) (take ko outliers) →
+        b .count ≡ length (held b) →
         poolsOf d (a .micros) (a .count) (b .micros) (b .count) ≡ pruned p t s
     prunes p t a b ea ca eb cb =
         let n1 : a .count ≡ length (retain (potentialStays p t) (take np potential)) = ca ∙ ap length ea in

@@ -16,7 +16,9 @@ use Rattle.feature.specs.Feature.{moved}
 -- a turn of the distance, and its end
 module _ (n i : ℕ) (a b : List Float) (s : Float) where
   pub sum-step :
-      i < n → n ≤ length a → n ≤ length b →
+      i < n →
+      n ≤ length a →
+      n ≤ length b →
       sumFrom (s ⊕ (getD a i nan ⊖ getD b i nan) ⊗ (getD a i nan ⊖ getD b i nan)) (rest n (i + 1) a) (rest n (i + 1) b)
       ≡ sumFrom s (rest n i a) (rest n i b)
   unfolding sumFrom

@@ -169,7 +169,10 @@ more-or-none a b h = go (ltb b a) (nltb→le b a)
     go false k = let l : a ≤ b = k tt in inr (omega arith)
 
 rest-down :
-    (m : ℕ) (e : ℤ) (w : Float) (c : ℕ) → c * down e ≤ m * up e → m * up e < suc c * down e → HasValue w false c 1 →
+    (m : ℕ) (e : ℤ) (w : Float) (c : ℕ) →
+    c * down e ≤ m * up e →
+    m * up e < suc c * down e →
+    HasValue w false c 1 →
     Down (sub binary64 (fin true m e) (neg w))
 rest-down m e nan c a b v = absurd v
 rest-down m e (inf t) c a b v = absurd v
@@ -249,7 +252,9 @@ one-within = (refl, lit≤ tt)
 
 -- the definition, by what its two tests say
 by-tests :
-    (y : Float) (a b : Bool) → lt y nought ≡ a → lt (cutOf y) least ≡ b →
+    (y : Float) (a b : Bool) →
+    lt y nought ≡ a →
+    lt (cutOf y) least ≡ b →
     (lt y nought ≡ true → lt (cutOf y) least ≡ false → Within false (steps ((y ⊖ cutOf y) ⊗ L) 20 one ⊗ minusPower (wholes (cutOf y)))) →
     Within false (twoTo y)
 unfolding twoTo

@@ -29,14 +29,22 @@ pub data In : Bool → ℕ → ℕ → ℕ → Float → Type 0 where
 
 -- ---- rounding keeps a bound that is a double
 value-le :
-    (m : ℕ) (e : ℤ) (n : ℕ) (d : ℤ) (a c b k : ℕ) → m * up e * c ≡ a * down e → n * up d * k ≡ b * down d →
-    T (le (fin false m e) (fin false n d)) → a * k ≤ b * c
+    (m : ℕ) (e : ℤ) (n : ℕ) (d : ℤ) (a c b k : ℕ) →
+    m * up e * c ≡ a * down e →
+    n * up d * k ≡ b * down d →
+    T (le (fin false m e) (fin false n d)) →
+    a * k ≤ b * c
 value-le m e n d a c b k v w h =
     let p = le→parts false m e false n d h in
     transfer a b c k (m * up e) (n * up d) (down e) (down d) (down-pos e) (down-pos d) (sym v) (sym w) (omega arith)
 
 between :
-    (u a b : ℕ) (lo x hi : Float) → HasValue lo false a u → HasValue hi false b u → Plus x → T (le lo x) → T (le x hi) →
+    (u a b : ℕ) (lo x hi : Float) →
+    HasValue lo false a u →
+    HasValue hi false b u →
+    Plus x →
+    T (le lo x) →
+    T (le x hi) →
     In false u a b x
 between u a b nan x hi v w p h k = absurd v
 between u a b (inf s) x hi v w p h k = absurd v
@@ -156,8 +164,11 @@ module _ (j : ℕ) (J : T (leb j 1074)) where
 
   -- ---- the operations: p and q are the bounds of the result
   pub mul-in :
-      {s t : Bool} {a b c d : ℕ} {x y : Float} (p q : ℕ) → T (leb (p * 2 ^ j) (a * c) && leb (b * d) (q * 2 ^ j) && ltb q (2 ^ 53)) →
-      In s (2 ^ j) a b x → In t (2 ^ j) c d y → In (unlike s t) (2 ^ j) p q (x ⊗ y)
+      {s t : Bool} {a b c d : ℕ} {x y : Float} (p q : ℕ) →
+      T (leb (p * 2 ^ j) (a * c) && leb (b * d) (q * 2 ^ j) && ltb q (2 ^ 53)) →
+      In s (2 ^ j) a b x →
+      In t (2 ^ j) c d y →
+      In (unlike s t) (2 ^ j) p q (x ⊗ y)
   mul-in {s} {t} {a} {b} {c} {d} p q r (sized m e l h) (sized n g l′ h′) =
       let k = yes (leb (p * 2 ^ j) (a * c)) (leb (b * d) (q * 2 ^ j)) (ltb q (2 ^ 53)) r in
       rw (mul-fin binary64 s m e t n g)
@@ -167,8 +178,12 @@ module _ (j : ℕ) (J : T (leb j 1074)) where
 
   -- a quotient's bounds
   pub div-in :
-      {s t : Bool} {a b c d : ℕ} {x y : Float} (p q : ℕ) → T (ltb 0 c) → T (leb (p * d) (a * 2 ^ j) && leb (b * 2 ^ j) (q * c) && ltb q (2 ^ 53)) →
-      In s (2 ^ j) a b x → In t (2 ^ j) c d y → In (unlike s t) (2 ^ j) p q (x ⊘ y)
+      {s t : Bool} {a b c d : ℕ} {x y : Float} (p q : ℕ) →
+      T (ltb 0 c) →
+      T (leb (p * d) (a * 2 ^ j) && leb (b * 2 ^ j) (q * c) && ltb q (2 ^ 53)) →
+      In s (2 ^ j) a b x →
+      In t (2 ^ j) c d y →
+      In (unlike s t) (2 ^ j) p q (x ⊘ y)
   div-in {c = c} p q K r (sized m e l h) (sized zero g l′ h′) = absurd (
       let k : 0 < c * down g = mul-pos (ltb→lt 0 c K) (down-pos g) in
       let z : 0 * up g * 2 ^ j ≡ 0 = rw zero-mul (zero-mul (2 ^ j)) in
@@ -182,7 +197,10 @@ module _ (j : ℕ) (J : T (leb j 1074)) where
 
   -- a sum's bounds
   pub add-in :
-      {s : Bool} {a b c d : ℕ} {x y : Float} → T (ltb (b + d) (2 ^ 53)) → In s (2 ^ j) a b x → In s (2 ^ j) c d y →
+      {s : Bool} {a b c d : ℕ} {x y : Float} →
+      T (ltb (b + d) (2 ^ 53)) →
+      In s (2 ^ j) a b x →
+      In s (2 ^ j) c d y →
       In s (2 ^ j) (a + c) (b + d) (x ⊕ y)
   add-in {s} {a} {b} {c} {d} r (sized m e l h) (sized n g l′ h′) =
       rw (add-fin binary64 s m e s n g, sum-same binary64 s (m * up e * down g) (n * up g * down e) (down e * down g))
@@ -191,7 +209,10 @@ module _ (j : ℕ) (J : T (leb j 1074)) where
 
   -- signs unlike, or a difference: the second is no larger than the first
   pub away-in :
-      {a b c d : ℕ} {x y : Float} (p q : ℕ) → T (leb (p + d) a && leb b (q + c) && ltb q (2 ^ 53)) → In false (2 ^ j) a b x → In true (2 ^ j) c d y →
+      {a b c d : ℕ} {x y : Float} (p q : ℕ) →
+      T (leb (p + d) a && leb b (q + c) && ltb q (2 ^ 53)) →
+      In false (2 ^ j) a b x →
+      In true (2 ^ j) c d y →
       In false (2 ^ j) p q (x ⊕ y)
   away-in {a} {b} {c} {d} p q r (sized m e l h) (sized n g l′ h′) =
       let k = yes (leb (p + d) a) (leb b (q + c)) (ltb q (2 ^ 53)) r in
@@ -202,6 +223,9 @@ module _ (j : ℕ) (J : T (leb j 1074)) where
 
   -- a difference's bounds
   pub sub-in :
-      {a b c d : ℕ} {x y : Float} (p q : ℕ) → T (leb (p + d) a && leb b (q + c) && ltb q (2 ^ 53)) → In false (2 ^ j) a b x → In false (2 ^ j) c d y →
+      {a b c d : ℕ} {x y : Float} (p q : ℕ) →
+      T (leb (p + d) a && leb b (q + c) && ltb q (2 ^ 53)) →
+      In false (2 ^ j) a b x →
+      In false (2 ^ j) c d y →
       In false (2 ^ j) p q (x ⊖ y)
   sub-in {x = x} {y = y} p q r i k = rw (sub-opened binary64 x y) (away-in p q r i (neg-in k))

@@ -240,7 +240,10 @@ zeros f a c b d C D x y = rw (x, y, zero-round f false c C, zero-round f true d 
 
 -- rounding keeps the order, sign and all
 pub round-mono-signed :
-    (f : Format) (s : Bool) (a c : ℕ) (t : Bool) (b d : ℕ) → 0 < c → 0 < d → Below (P s a) (Q s a) c (P t b) (Q t b) d →
+    (f : Format) (s : Bool) (a c : ℕ) (t : Bool) (b d : ℕ) →
+    0 < c →
+    0 < d →
+    Below (P s a) (Q s a) c (P t b) (Q t b) d →
     T (le (round f s a c) (round f t b d))
 round-mono-signed f false a c false b d C D h = round-mono f a c b d C D (omega arith)
 round-mono-signed f false a c true b d C D h = zeros f a c b d C D (none a d D (omega arith)) (none b c C (omega arith))

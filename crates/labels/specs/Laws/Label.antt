@@ -222,7 +222,12 @@ labels-tell n hn es mask size =
     Same i j = (Outside mask i × Outside mask j) ⊎ (Inside mask i × Inside mask j × Chain (Joined n es) i j)
 
     to :
-        (i j : ℕ) → i < n → j < n → (t u : Bool) → getD mask i false ≡ t → getD mask j false ≡ u →
+        (i j : ℕ) →
+        i < n →
+        j < n →
+        (t u : Bool) →
+        getD mask i false ≡ t →
+        getD mask j false ≡ u →
         labelAt (labelsFrom [] mask roots) i ≡ labelAt (labelsFrom [] mask roots) j →
         Same i j
     to i j hi hj true true p q e =
@@ -244,7 +249,10 @@ labels-tell n hn es mask size =
 
 -- of the array that `labels` gives, the first n are these
 pub labels-first :
-    (roots : List ℕ) (mask : List Bool) (n : ℕ) → n ≤ places → length mask ≡ places → length roots ≡ places →
+    (roots : List ℕ) (mask : List Bool) (n : ℕ) →
+    n ≤ places →
+    length mask ≡ places →
+    length roots ≡ places →
     take n (labelsIn roots mask n) ≡ labelsOf (take n mask) roots
 unfolding labelsIn labelsOf
 labels-first roots mask n hn lm lr =

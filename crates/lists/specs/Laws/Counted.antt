@@ -55,7 +55,12 @@ module _ {A : Type 0} {p : A → Bool} {m n k : ℕ} {l₀ : List A} where
   module _ {l : List A} {i j : ℕ} (g : Kept p m n k l₀ l i j) where
     -- a turn: b is what the test said, l′ and j′ what the code made of the array and of j
     pub keep-takes :
-        (d : A) (b : Bool) (l′ : List A) (j′ : ℕ) → i < k → b ≡ p (getD l i d) → b ≡ true → l′ ≡ set l j (getD l i d) → j′ ≡ j + 1 →
+        (d : A) (b : Bool) (l′ : List A) (j′ : ℕ) →
+        i < k →
+        b ≡ p (getD l i d) →
+        b ≡ true →
+        l′ ≡ set l j (getD l i d) →
+        j′ ≡ j + 1 →
         Kept p m n k l₀ l′ (i + 1) j′
     keep-takes d b l′ j′ h v t el ej =
         rw (el, ej)

@@ -24,7 +24,10 @@ module _ {ℓ} {A : Type ℓ} where
   -- ---- a retain in place: `if p(l[i]) { l[j] = l[i]; j += 1; }` for i from 0. Done is `take j l`, left is `rest n i l`
   module _ (p : A → Bool) (n i j : ℕ) (l : List A) (d : A) (h : i < n) (k : n ≤ length l) where
     pub retain-take :
-        (v : A) → j ≤ i → v ≡ getD l i d → p v ≡ true →
+        (v : A) →
+        j ≤ i →
+        v ≡ getD l i d →
+        p v ≡ true →
         take (j + 1) (set l j v) ++ retain p (rest n (i + 1) (set l j v)) ≡ take j l ++ retain p (rest n i l)
     unfolding retain
     retain-take v g e t =
@@ -44,7 +47,10 @@ module _ {ℓ} {A : Type ℓ} where
 
   -- ---- an insertion in place: `t = l[i]; l[i] = c; c = t;` for i from p, and at n `l[n] = c`. Done is `take i l`, then the one carried, then `rest n i l`
   pub carry-step :
-      (n i : ℕ) (l : List A) (d c v : A) → i < n → n ≤ length l → v ≡ getD l i d →
+      (n i : ℕ) (l : List A) (d c v : A) →
+      i < n →
+      n ≤ length l →
+      v ≡ getD l i d →
       take (i + 1) (set l i c) ++ v ∷ rest n (i + 1) (set l i c) ≡ take i l ++ c ∷ rest n i l
   carry-step n i l d c v h k e =
       let q : i < length l = omega arith in
@@ -60,7 +66,11 @@ module _ {ℓ} {A : Type ℓ} where
 -- ---- a map into another array: `out[i] = f(l[i])` for i from 0. Done is `take i out`, left is `rest n i l`
 module _ {ℓ} {A B : Type ℓ} (f : A → B) (n i : ℕ) (l : List A) (out : List B) where
   pub gather-step :
-      (d : A) (v : B) → i < n → n ≤ length l → i < length out → v ≡ f (getD l i d) →
+      (d : A) (v : B) →
+      i < n →
+      n ≤ length l →
+      i < length out →
+      v ≡ f (getD l i d) →
       take (i + 1) (set out i v) ++ map f (rest n (i + 1) l) ≡ take i out ++ map f (rest n i l)
   gather-step d v h k o e = rw (rest-step n i l d, ← e, add-one, take-suc-set out i v, append-snoc (take i out) v)
 

@@ -28,7 +28,10 @@ module _ {ℓ} {A : Type ℓ} where
 
   -- one element moved down
   pub shift-step :
-      (n k : ℕ) (l : List A) (d v : A) → k + 1 < n → n ≤ length l → v ≡ getD l (k + 1) d →
+      (n k : ℕ) (l : List A) (d v : A) →
+      k + 1 < n →
+      n ≤ length l →
+      v ≡ getD l (k + 1) d →
       take (k + 1) (set l k v) ++ rest n (k + 1 + 1) (set l k v) ≡ take k l ++ rest n (k + 1) l
   shift-step n k l d v h b e =
       let q : k < length l = omega arith in

@@ -46,7 +46,9 @@ insertion-said {S} {P} {H} k s x o e =
 -- the three clauses of an insert, from the first: its answer a, v what becomes of s, r the stream that stands for it, came the one that came
 pub inserted-as :
     {S P H R : Type 0} (k : Kind S P H) (s : State P H) (x : List Float) (a : Insertion) (v : State P H) (done : Bool) (r came : R) →
-    _≡_ {A = Outcome (State P H)} (record { answer = a; stream = v }) (insertOf k s x) → done ≡ isDone a → (done ≡ false → r ≡ came) →
+    _≡_ {A = Outcome (State P H)} (record { answer = a; stream = v }) (insertOf k s x) →
+    done ≡ isDone a →
+    (done ≡ false → r ≡ came) →
     (_≡_ {A = Outcome (State P H)} (record { answer = a; stream = v }) (insertOf k s x))
     × ((insertionNumber a ≢ 0 → r ≡ came) × (insertionSaid a ≡ insertionNo (k .dim (s .params)) (length x) (s .t) (hasPlace k s x)))
 inserted-as k s x a v done r came told eb kept = (told, (given-back a done r came eb kept, insertion-said k s x _ told))

@@ -62,8 +62,12 @@ module _ (last : Bool × Opening) where
 
   -- a is the others' answer
   pub one-more :
-      (qs : List (Bool × Opening)) → Refusals qs →
-      (a : Opening) (others this : Bool) → a ≡ firstNo qs Open → isOpen a ≡ others → last .0 ≡ this →
+      (qs : List (Bool × Opening)) →
+      Refusals qs →
+      (a : Opening) (others this : Bool) →
+      a ≡ firstNo qs Open →
+      isOpen a ≡ others →
+      last .0 ≡ this →
       cond others (cond this Open (last .1)) a ≡ more qs
   one-more qs r a others this e eo et =
       ap₂ (λ (o t : Bool). cond o (cond t Open (last .1)) a) (sym eo) (sym et) ∙ ap asking e ∙ asked-more qs r

@@ -41,7 +41,9 @@ module _ {S P H : Type 0} (k : Kind S P H) where
 
     -- with a cleanup, or without
     pub tick-cases :
-        (Q : State P H → Type 0) → Q (holding (advanced s d) (k .cleaned (s .params) (s .t ⊕ one) (s .held))) → Q (advanced s d) →
+        (Q : State P H → Type 0) →
+        Q (holding (advanced s d) (k .cleaned (s .params) (s .t ⊕ one) (s .held))) →
+        Q (advanced s d) →
         Q (tickOf k s d)
     unfolding tickOf
     tick-cases Q due still = go (isMultiple (s .t ⊕ one) (k .period (s .params)))
@@ -74,8 +76,10 @@ module _ {S P H : Type 0} (k : Kind S P H) where
   module _ (place : State P H → List Float → Bool) (s : State P H) (x : List Float) where
     -- refused, with the stream as it came; or taken
     pub insert-cases :
-        (Q : Outcome (State P H) → Type 0) → ((a : Insertion) → isDone a ≡ false → Q (record { answer = a; stream = s })) →
-        (lt (s .t) clockLimit ≡ true → place s x ≡ true → Q (record { answer = Done; stream = takenOf k s x })) → Q (insertBy k place s x)
+        (Q : Outcome (State P H) → Type 0) →
+        ((a : Insertion) → isDone a ≡ false → Q (record { answer = a; stream = s })) →
+        (lt (s .t) clockLimit ≡ true → place s x ≡ true → Q (record { answer = Done; stream = takenOf k s x })) →
+        Q (insertBy k place s x)
     unfolding insertBy
     insert-cases Q refuse accept =
         asked-cases (k .dim (s .params)) (length x) (s .t) (place s x) (λ (a : Insertion). Q (outcome a s (takenOf k s x)))
@@ -83,9 +87,14 @@ module _ {S P H : Type 0} (k : Kind S P H) where
 
   -- d coordinates, a place p, what is held h and the distance near as found of a point of d coordinates; the answer a; v what becomes of the stream
   pub inserted-by :
-      (s : State P H) (x : List Float) (d : ℕ) (p : Bool) (h : H) (near : Nearest) (a : Insertion) (b : Bool) (v : State P H) → d ≡ k .dim (s .params) →
-      (length x ≡ d → p ≡ hasPlace k s x) → (length x ≡ d → p ≡ true → h ≡ k .placed s x) → (length x ≡ d → near ≡ k .nearestFor s x) →
-      a ≡ insertionAsked d (length x) (s .t) p → b ≡ isDone a → v ≡ cond b (tickOf k (taking s h) near) s →
+      (s : State P H) (x : List Float) (d : ℕ) (p : Bool) (h : H) (near : Nearest) (a : Insertion) (b : Bool) (v : State P H) →
+      d ≡ k .dim (s .params) →
+      (length x ≡ d → p ≡ hasPlace k s x) →
+      (length x ≡ d → p ≡ true → h ≡ k .placed s x) →
+      (length x ≡ d → near ≡ k .nearestFor s x) →
+      a ≡ insertionAsked d (length x) (s .t) p →
+      b ≡ isDone a →
+      v ≡ cond b (tickOf k (taking s h) near) s →
       _≡_ {A = Outcome (State P H)} (record { answer = a; stream = v }) (insertOf k s x)
   unfolding insertBy
   inserted-by s x d p h near a b v ed ep eh en ea eb ev =

@@ -43,7 +43,12 @@ ticks-are x n h p =
 
 -- "if t is a multiple of t_gap": the Rust's `t % t_gap == 0.0`
 pub multiple-of-doubles :
-    (t period : Float) (n k : ℕ) → n ≤ 2 ^ 53 → 0 < k → k ≤ 2 ^ 53 → Is t n → Is period k →
+    (t period : Float) (n k : ℕ) →
+    n ≤ 2 ^ 53 →
+    0 < k →
+    k ≤ 2 ^ 53 →
+    Is t n →
+    Is period k →
     isMultiple t period ≡ eq (rem binary64 t period) nought
 multiple-of-doubles t period n k h z l p q =
     rw (ticks-are t n h p, ticks-are period k l q, ne-eqb k 0 (λ e. omega arith), rem-is t period n k z p q)

@@ -76,7 +76,10 @@ module _
       too-short h = sym (by-tests true false is-zero (lt-leb (length due) (length lent) (omega (arith, due-length))))
 
       pub ran :
-          (s : S) (numbers : List ℕ) → length lengths ≤ length lent → s ≡ runOf insert (o .stream) points → numbers ≡ due ++ drop (length lengths) lent →
+          (s : S) (numbers : List ℕ) →
+          length lengths ≤ length lent →
+          s ≡ runOf insert (o .stream) points →
+          numbers ≡ due ++ drop (length lengths) lent →
           told 0 numbers (cluster s) ≡ sessionOf insert cluster o points lent
       ran s numbers h es en =
           rw (es, en, ← due-length) (sym (by-tests true true is-zero (le-leb (length due) (length lent) (omega (arith, due-length)))))

@@ -42,7 +42,10 @@ module _ {S : Type 0} (insert : S → List Float → Outcome S) (lengths : List 
 
   -- what is left opens with the next point
   next-point :
-      (i at end : ℕ) → at ≤ length values → i < length lengths → end ≡ min (at + getD lengths i 0) (length values) →
+      (i at end : ℕ) →
+      at ≤ length values →
+      i < length lengths →
+      end ≡ min (at + getD lengths i 0) (length values) →
       left lengths values i at ≡ take (end - at) (drop at values) ∷ left lengths values (i + 1) end
   unfolding pointsOf
   next-point i at end w h e =
@@ -93,9 +96,12 @@ module _ {S : Type 0} (insert : S → List Float → Outcome S) (lengths : List 
   -- the same, of an outcome that is the insert's, and its number
   pub going-on :
       (s₀ s : S) (next : Outcome S) (numbers₀ numbers : List ℕ) (i at end v : ℕ) →
-      Going s₀ s numbers₀ numbers i at → i < length lengths → length lengths ≤ length numbers₀ →
+      Going s₀ s numbers₀ numbers i at →
+      i < length lengths →
+      length lengths ≤ length numbers₀ →
       end ≡ min (at + getD lengths i 0) (length values) →
-      next ≡ insert s (take (end - at) (drop at values)) → v ≡ insertionNumber (next .answer) →
+      next ≡ insert s (take (end - at) (drop at values)) →
+      v ≡ insertionNumber (next .answer) →
       Going s₀ (next .stream) numbers₀ (set numbers i v) (i + 1) end
   going-on s₀ s next numbers₀ numbers i at end v g h k e is number =
       rw (number, is) (going-step s₀ s numbers₀ numbers i at end g h (omega (arith, g .places)) e)

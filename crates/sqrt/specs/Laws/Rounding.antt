@@ -153,7 +153,11 @@ scaled-high c =
 
 -- it rounds to 53 digits: half of q + 1
 pub rounds-to :
-    (a c q t : ℕ) → Step a (2 ^ c) q t → (q * q ≡ a → q % 2 ≡ 0) → 2 ^ 53 ≤ q → q < 2 ^ 54 →
+    (a c q t : ℕ) →
+    Step a (2 ^ c) q t →
+    (q * q ≡ a → q % 2 ≡ 0) →
+    2 ^ 53 ≤ q →
+    q < 2 ^ 54 →
     round binary64 false t (2 ^ 593) ≡ units binary64 false ((q + 1) / 2) (c + 483)
 rounds-to a c q t s tie lo hi =
     let p = 2 ^ c in
@@ -237,7 +241,11 @@ units-value r g hi G = units-val binary64 false r g (lt-of-lt-of-le (shl-lt 54 g
 
 -- the bits of 53 digits at a power of two
 pub bits-are :
-    (r g : ℕ) → 2 ^ 52 ≤ r → r ≤ 2 ^ 53 → g ≤ 2044 → T (fits binary64 (units binary64 false r g)) →
+    (r g : ℕ) →
+    2 ^ 52 ≤ r →
+    r ≤ 2 ^ 53 →
+    g ≤ 2044 →
+    T (fits binary64 (units binary64 false r g)) →
     ofBits binary64 (g * 2 ^ 52 + r) ≡ units binary64 false r g
 bits-are r g lo hi G fit =
     ap (ofBits binary64) (sym (bits-of-value (units binary64 false r g) (r * 2 ^ g) (units-value r g hi G) ∙ bits-of r g lo hi))

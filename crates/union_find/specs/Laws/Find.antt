@@ -80,7 +80,14 @@ find-law p r wf x hx = finds r places p wf x 0 hx (omega arith) (inl (omega arit
 
 -- the steps that follow do not hang on those made before, nor on how many may follow
 steps-apart :
-    (r : List ℕ) (k j : ℕ) (p : List ℕ) → WellFormed p r → (x s t : ℕ) → x < places → 4 ≤ k + s → Made p r x s → 4 ≤ j + t → Made p r x t →
+    (r : List ℕ) (k j : ℕ) (p : List ℕ) →
+    WellFormed p r →
+    (x s t : ℕ) →
+    x < places →
+    4 ≤ k + s →
+    Made p r x s →
+    4 ≤ j + t →
+    Made p r x t →
     findFrom k p x s .steps + t ≡ findFrom j p x t .steps + s
 steps-apart r zero j p wf x s t hx hk m hj n = absurd (let c : s ≤ 3 = made-few p r wf x s hx m in omega arith)
 steps-apart r (suc k) zero p wf x s t hx hk m hj n = absurd (let c : t ≤ 3 = made-few p r wf x t hx n in omega arith)

@@ -38,7 +38,11 @@ sum-one (suc n) f g a h d =
 
 -- f and g differ at a and b alone
 pub sum-two :
-    (n : ℕ) (f g : ℕ → ℕ) (a b : ℕ) → a < n → b < n → a ≢ b → ((i : ℕ) → i < n → i ≢ a → i ≢ b → f i ≡ g i) →
+    (n : ℕ) (f g : ℕ → ℕ) (a b : ℕ) →
+    a < n →
+    b < n →
+    a ≢ b →
+    ((i : ℕ) → i < n → i ≢ a → i ≢ b → f i ≡ g i) →
     sum n f + (g a + g b) ≡ sum n g + (f a + f b)
 sum-two n f g a b ha hb ab d =
     let q : sum n f + h a ≡ sum n h + f a = sum-one n f h a ha (λ i hi ia. sym (h-other i ia)) in

@@ -181,7 +181,10 @@ module _ (p r : List ℕ) (wf : WellFormed p r) (x y : ℕ) (hx : x < places) (h
 
     -- linking the roots of a and b, either way round
     pub link-merges :
-        (a b : ℕ) → a < places → b < places → ((rootOf p a ≡ x) × (rootOf p b ≡ y)) ⊎ ((rootOf p a ≡ y) × (rootOf p b ≡ x)) →
+        (a b : ℕ) →
+        a < places →
+        b < places →
+        ((rootOf p a ≡ x) × (rootOf p b ≡ y)) ⊎ ((rootOf p a ≡ y) × (rootOf p b ≡ x)) →
         Merged places (rootOf p) (rootOf (set p x y)) a b
     link-merges a b ha hb ab = redirected x y ha hb link-root-over link-root-away ab
 
@@ -208,7 +211,10 @@ module _ (p r : List ℕ) (wf : WellFormed p r) (x y : ℕ) (hx : x < places) (h
 
     -- a rank of y that is above x's, not below its own, and no heavier than both
     pub link-well :
-        length r′ ≡ places → getD r x 0 < getD r′ y 0 → getD r y 0 ≤ getD r′ y 0 → 2 ^ getD r′ y 0 ≤ 2 ^ getD r x 0 + 2 ^ getD r y 0 →
+        length r′ ≡ places →
+        getD r x 0 < getD r′ y 0 →
+        getD r y 0 ≤ getD r′ y 0 →
+        2 ^ getD r′ y 0 ≤ 2 ^ getD r x 0 + 2 ^ getD r y 0 →
         WellFormed (set p x y) r′
     link-well len above grown light =
         record {

@@ -21,14 +21,18 @@ iterate-end f (suc n) a h w = absurd (omega arith)
 
 pub same-figures :
     (number micros micros′ families families′ : ℕ) (report report′ : DriftReport) →
-    micros ≡ micros′ → families ≡ families′ → report ≡ report′ →
+    micros ≡ micros′ →
+    families ≡ families′ →
+    report ≡ report′ →
     figures number micros families report ≡ figures number micros′ families′ report′
 same-figures number micros micros′ families families′ report report′ em ef er = rw (em, ef, er)
 
 -- `run` is what the session told, `last` its stream after the rounds
 pub read-out :
     {S : Type 0} (cluster : S → S) (read : ℕ → S → Figures) (rounds : ℕ) (run whole : Session S) (last : S) (f : Figures) →
-    run ≡ whole → last ≡ iterate cluster rounds (run .stream) → f ≡ read (run .number) last →
+    run ≡ whole →
+    last ≡ iterate cluster rounds (run .stream) →
+    f ≡ read (run .number) last →
     told f (run .numbers) ≡ told (read (whole .number) (iterate cluster rounds (whole .stream))) (whole .numbers)
 read-out {S} cluster read rounds run whole last f e l r =
     ap (λ (g : Figures). told g (run .numbers)) (r ∙ ap (read (run .number)) l)

@@ -33,8 +33,11 @@ one-at-most false = omega arith
 
 -- one update more, whose answer and window are those of the definition
 pub going-on :
-    (values : List Float) (w₀ w next : Window) (alarms i ring : ℕ) (d : Float) → Going values w₀ w alarms i → i < length values →
-    next ≡ updateOf w (getD values i d) .window → ring ≡ cond (updateOf w (getD values i d) .alarm) 1 0 →
+    (values : List Float) (w₀ w next : Window) (alarms i ring : ℕ) (d : Float) →
+    Going values w₀ w alarms i →
+    i < length values →
+    next ≡ updateOf w (getD values i d) .window →
+    ring ≡ cond (updateOf w (getD values i d) .alarm) 1 0 →
     Going values w₀ next (alarms + ring) (i + 1)
 unfolding runOf alarmsIn
 going-on values w₀ w next alarms i ring d g h en er =

@@ -163,7 +163,10 @@ module _ {M : Type 1} (𝓤 : URA M) (H : Heap 𝓤) (A : Atoms 𝓤) (W : Given
   passed s e = ((tt, tt, tt, (s, (e, tt)), (svals s, (bvals e, tt))), tt)
 
   passes-on :
-      (s : Search) (e : Bucket) → Is S.the-row s (svals s) → Is B.the-row e (bvals e) → (0 < s .left) × (s .at + s .left < 2 ^ 64) →
+      (s : Search) (e : Bucket) →
+      Is S.the-row s (svals s) →
+      Is B.the-row e (bvals e) →
+      (0 < s .left) × (s .at + s .left < 2 ^ 64) →
       ent 𝓤 (emp 𝓤) (Past 𝓤 H A at-mem run .pre (passed s e))
   passes-on s e is-s is-e small =
       qed W [] ∵ says ! small $ nothing ! $

@@ -13,7 +13,10 @@ use Rattle.float.proofs.two_to.exp2.Tie as tie
 
 -- the definition, by what its two tests say of y and of k
 by-tests :
-    (y k : Float) (a b : Bool) → lt y nought ≡ a → k ≡ cutOf y → lt k least ≡ b →
+    (y k : Float) (a b : Bool) →
+    lt y nought ≡ a →
+    k ≡ cutOf y →
+    lt k least ≡ b →
     twoTo y ≡ cond a (cond b nought (steps ((y ⊖ k) ⊗ L) 20 one ⊗ minusPower (wholes k))) one
 unfolding twoTo
 by-tests y k a b p e q = rw (← q, ← p, e)

@@ -10,7 +10,8 @@ returns c =
     let at-step = at-upward .before .before in
     let at-low = at-step .before .before in
     let a = at-low .before .args in
-    placed (a .up) (a .row) _ _ _ _ _ (at-low .low .ensures) (at-step .step .ensures) (at-upward .upward .ensures) (c .before .cell .ensures) (c .cell2 .ensures)
+    placed (a .up) (a .row) _ _ _ _ _ (at-low .low .ensures) (at-step .step .ensures) (at-upward .upward .ensures)
+    (c .before .cell .ensures) (c .cell2 .ensures)
 
 pub place-spec : {M : Type 1} → statement M
 place-spec =
