@@ -1,5 +1,4 @@
 // The array of a pool, and how many of its places are held.
-use feature::MAX_DIM;
 use model::Body;
 use model::DenMicro;
 use model::MICROS;
@@ -7,7 +6,7 @@ ghost use mathlib.Core.Path.{_≡_};
 ghost use mathlib.Core.List.{map};
 ghost use lib.ListN.{length, take};
 ghost use Rattle.lists.specs.Retain as list;
-ghost use Rattle.den_pool.specs.Held.{held, bodyOf, weightOf, distanceOf};
+ghost use Rattle.den_pool.specs.Held.{held, bodyOf, weightOf};
 
 pub struct Pool {
     pub micros: [DenMicro; MICROS],
@@ -28,28 +27,6 @@ pub fn faded_weights(pool: [DenMicro; MICROS], n: usize, lambda: f64, t: f64) ->
         i += 1;
     }
     w
-}
-
-// Each one's squared distance from the point.
-pub(crate) fn distances(
-    pool: [DenMicro; MICROS],
-    n: usize,
-    x: [f64; MAX_DIM],
-    dim: usize,
-) -> [f64; MICROS]
-    ensures { λ r. ⌜ take n r ≡ map (distanceOf dim (take dim x)) (take n pool) ⌝ }
-{
-    let k = lists::cut(n, MICROS);
-    let mut ds = [0.0; MICROS];
-    let mut i: usize = 0;
-    while i < k {
-        let m = pool[i];
-        let cf = m.body.cf;
-        let mean = cf.mean;
-        ds[i] = feature::sq_euclidean(mean, x, dim);
-        i += 1;
-    }
-    ds
 }
 
 // All but the one at the place, in order.

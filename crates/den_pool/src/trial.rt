@@ -2,7 +2,6 @@
 use crate::micro::absorbed;
 use crate::micro::newborn;
 use crate::micro::stands;
-use crate::pool::distances;
 use drift::Nearest;
 use feature::MAX_DIM;
 use model::DenMicro;
@@ -24,6 +23,7 @@ pub struct Trial {
 }
 
 // A copy of the nearest of the first n absorbs the point; without a nearest, the point stands alone at place 0.
+// The distances' loop stands here, where the pool is: a function of its own would copy the pool.
 pub fn try_merge(
     pool: [DenMicro; MICROS],
     n: usize,
@@ -34,7 +34,17 @@ pub fn try_merge(
     ensures { λ r. ⌜ trialTold (dimOf params) r ≡ triedOf (settledOf params) t (take (dimOf params) x) (seen (dimOf params) n pool) ⌝ }
 {
     let dim = lists::cut(params.settings.dim, MAX_DIM);
-    let found = readout::nearest(distances(pool, n, x, dim), n);
+    let k = lists::cut(n, MICROS);
+    let mut ds = [0.0; MICROS];
+    let mut i: usize = 0;
+    while i < k {
+        let one = pool[i];
+        let cf = one.body.cf;
+        let mean = cf.mean;
+        ds[i] = feature::sq_euclidean(mean, x, dim);
+        i += 1;
+    }
+    let found = readout::nearest(ds, n);
     let Found::At { place, dist } = found else {
         return Trial {
             near: Nearest::Nothing,

@@ -1,59 +1,84 @@
 -- `try_merge` meets its contract. Assumes nothing.
-use Prim.Native.Nat.{_<_}
+use Prim.Native.Nat.{_-_, _<_}
 use mathlib.Core.Path.{_≡_}
 use native.Mathlib.Omega.{arith}
-use lib.ListN.{length}
+use lib.ListN.{length, take}
 use borrow.Author.Needs.{needs}
+use Rattle.lists.specs.Laws.Counted.{Gathered, gather-starts, gather-goes, gather-ends}
 use Rattle.feature.specs.Feature.{maxDim}
-use Rattle.den_pool.specs.Held.{settledOf}
+use Rattle.model.specs.Limits.{microsMost}
+use Rattle.den_pool.specs.Held.{settledOf, distanceOf}
 use Rattle.den_pool.proofs.Tries.{tried-none, found-here, tried-some}
 use Rattle.den_pool.proofs.trial.try_merge.Statement.{statement}
 use Rattle.den_pool.proofs.trial.try_merge.Tie as tie
 
+abbrev Inv-loop : tie.InvT-loop
+Inv-loop n params t x pool dim k ds₀ i₀ ds i = Gathered (distanceOf dim (take dim x)) microsMost n k pool ds i
+
+abbrev μ-loop : tie.MeasureT-loop
+μ-loop n params t x pool dim k ds₀ i₀ ds i = k - i
+
 -- the places of a point
-point-room : (s : tie.Start) → length (s .args .x) ≡ maxDim
+point-room : (s : tie.Start Inv-loop μ-loop) → length (s .args .x) ≡ maxDim
 point-room s = omega arith
 
-returns : tie.Need-returns
+-- ---- the loop: the distance of each one
+loop-holds : tie.Need-loop-holds Inv-loop μ-loop
+loop-holds c = gather-starts (c .cut2 .ensures) (omega arith) (search needs)
+
+loop-again : tie.Need-loop-again Inv-loop μ-loop
+loop-again c =
+    let at-test = c .before .before .before .before in
+    gather-goes (at-test .before .loop .inv) _ (at-test .loop-test .taken) (c .sq-euclidean .ensures)
+
+-- ---- the nearest, found among the distances
+abbrev came : tie.After-nearest Inv-loop μ-loop → tie.Start Inv-loop μ-loop
+came c =
+    let at-loop = c .before .before in
+    at-loop .before .before .before
+
+returns : tie.Need-returns Inv-loop μ-loop
 returns c =
     let at-nearest = c .before .before .before in
-    let at-distances = at-nearest .before in
-    let start = at-distances .before .before in
-    let a = start .args in
-    tried-none (settledOf (a .params)) (omega arith) _ (at-distances .before .cut .ensures) (a .x) (point-room start)
-    (a .n) (a .t1) _ (at-distances .distances .ensures) _ (at-nearest .nearest .ensures)
+    let at-test = at-nearest .before in
+    let at-loop = at-test .before in
+    let a = came at-nearest .args in
+    tried-none (settledOf (a .params)) (omega arith) _ (at-loop .before .before .cut .ensures) (a .x) (point-room (came at-nearest))
+    (a .n) (a .t1) _ (gather-ends (at-loop .loop .inv) (at-test .loop-test .left)) _ (at-nearest .nearest .ensures)
     (a .t) (c .newborn .result) (c .newborn .ensures) (c .before .enum-told .given .1)
 
--- the nearest stands in the array
-here : (c : tie.After-found) → c .found .given .0 .0 < length (c .before .before .before .before .before .args .t1)
+-- it stands in the array
+here : (c : tie.After-found Inv-loop μ-loop) → c .found .given .0 .0 < length (came (c .before .before) .args .t1)
 here c =
     let at-nearest = c .before .before in
-    let at-distances = at-nearest .before in
-    let start = at-distances .before .before in
-    let a = start .args in
-    found-here (settledOf (a .params)) (omega arith) _ (at-distances .before .cut .ensures) (a .x) (point-room start)
-    (a .n) (a .t1) _ (at-distances .distances .ensures) _ (at-nearest .nearest .ensures) _ _ (c .found .given .1)
+    let at-test = at-nearest .before in
+    let at-loop = at-test .before in
+    let a = came at-nearest .args in
+    found-here (settledOf (a .params)) (omega arith) _ (at-loop .before .before .cut .ensures) (a .x) (point-room (came at-nearest))
+    (a .n) (a .t1) _ (gather-ends (at-loop .loop .inv) (at-test .loop-test .left)) _ (at-nearest .nearest .ensures) _ _ (c .found .given .1)
 
-mul-m : tie.Need-mul-m
+mul-m : tie.Need-mul-m Inv-loop μ-loop
 mul-m c = omega (arith, here (c .before))
 
-array-copy-out-m : tie.Need-array-copy-out-m
+array-copy-out-m : tie.Need-array-copy-out-m Inv-loop μ-loop
 array-copy-out-m c = omega (arith, here (c .before))
 
-returns-2 : tie.Need-returns-2
+returns-2 : tie.Need-returns-2 Inv-loop μ-loop
 returns-2 c =
     let absorbed = c .before .absorbed in
     let at-found = c .before .before .before .before in
     let at-nearest = at-found .before .before in
-    let at-distances = at-nearest .before in
-    let start = at-distances .before .before in
-    let a = start .args in
-    tried-some (settledOf (a .params)) (omega arith) _ (at-distances .before .cut .ensures) (a .x) (point-room start)
-    (a .n) (a .t1) _ (at-distances .distances .ensures) _ (at-nearest .nearest .ensures) _ _ (at-found .found .given .1)
+    let at-test = at-nearest .before in
+    let at-loop = at-test .before in
+    let a = came at-nearest .args in
+    tried-some (settledOf (a .params)) (omega arith) _ (at-loop .before .before .cut .ensures) (a .x) (point-room (came at-nearest))
+    (a .n) (a .t1) _ (gather-ends (at-loop .loop .inv) (at-test .loop-test .left)) _ (at-nearest .nearest .ensures) _ _ (at-found .found .given .1)
     (a .t) _ (absorbed .result) (c .stands .result) (absorbed .ensures) (c .stands .ensures)
 
 pub try-merge-spec : {M : Type 1} → statement M
 try-merge-spec =
     tie.close
-    (tie.spec (λ c κs. search needs) (λ c κs. search needs) (λ c κs. search needs) (λ c. search needs) (λ c. search needs)
-    (λ c κs. search needs) returns mul-m array-copy-out-m (λ c κs. search needs) (λ c κs. search needs) returns-2)
+    (tie.spec Inv-loop μ-loop (λ c κs. search needs) (λ c κs. search needs) loop-holds (λ c. search needs) (λ c. search needs)
+    (λ c κs. search needs) (λ c. search needs) (λ c. search needs) (λ c. search needs) (λ c. search needs) loop-again
+    (λ c κs. search needs) (λ c. search needs) (λ c. search needs) (λ c κs. search needs) returns mul-m array-copy-out-m
+    (λ c κs. search needs) (λ c κs. search needs) returns-2)
