@@ -1,6 +1,7 @@
 -- `try_merge` meets its contract. Assumes nothing.
-use Prim.Native.Nat.{_-_, _<_}
+use Prim.Native.Nat.{ℕ, _-_, _<_}
 use mathlib.Core.Path.{_≡_}
+use mathlib.Core.List.{map}
 use native.Mathlib.Omega.{arith}
 use lib.ListN.{length, take}
 use borrow.Author.Needs.{needs}
@@ -31,31 +32,39 @@ loop-again c =
     let at-test = c .before .before .before .before in
     gather-goes (at-test .before .loop .inv) _ (at-test .loop-test .taken) (c .sq-euclidean .ensures)
 
--- ---- the nearest, found among the distances
+-- ---- the nearest, found among the distances: the call, the dim that is cut, the distances measured
+abbrev at-loop : tie.After-nearest Inv-loop μ-loop → tie.At-loop Inv-loop μ-loop
+at-loop c = c .before .before
+
 abbrev came : tie.After-nearest Inv-loop μ-loop → tie.Start Inv-loop μ-loop
-came c =
-    let at-loop = c .before .before in
-    at-loop .before .before .before
+came c = at-loop c .before .before .before
+
+abbrev dim : tie.After-nearest Inv-loop μ-loop → ℕ
+dim c = at-loop c .before .before .cut .result
+
+dim-is : (c : tie.After-nearest Inv-loop μ-loop) → dim c ≡ settledOf (came c .args .params) .settings .dim
+dim-is c = at-loop c .before .before .cut .ensures
+
+measured :
+    (c : tie.After-nearest Inv-loop μ-loop) →
+    let a = came c .args in
+    take (a .n) (at-loop c .loop .ds) ≡ map (distanceOf (dim c) (take (dim c) (a .x))) (take (a .n) (a .t1))
+measured c = gather-ends (at-loop c .loop .inv) (c .before .loop-test .left)
 
 returns : tie.Need-returns Inv-loop μ-loop
 returns c =
-    let at-nearest = c .before .before .before in
-    let at-test = at-nearest .before in
-    let at-loop = at-test .before in
-    let a = came at-nearest .args in
-    tried-none (settledOf (a .params)) (omega arith) _ (at-loop .before .before .cut .ensures) (a .x) (point-room (came at-nearest))
-    (a .n) (a .t1) _ (gather-ends (at-loop .loop .inv) (at-test .loop-test .left)) _ (at-nearest .nearest .ensures)
+    let near = c .before .before .before in
+    let a = came near .args in
+    tried-none (settledOf (a .params)) (omega arith) _ (dim-is near) (a .x) (point-room (came near)) (a .n) (a .t1) _ (measured near) _ (near .nearest .ensures)
     (a .t) (c .newborn .result) (c .newborn .ensures) (c .before .enum-told .given .1)
 
 -- it stands in the array
 here : (c : tie.After-found Inv-loop μ-loop) → c .found .given .0 .0 < length (came (c .before .before) .args .t1)
 here c =
-    let at-nearest = c .before .before in
-    let at-test = at-nearest .before in
-    let at-loop = at-test .before in
-    let a = came at-nearest .args in
-    found-here (settledOf (a .params)) (omega arith) _ (at-loop .before .before .cut .ensures) (a .x) (point-room (came at-nearest))
-    (a .n) (a .t1) _ (gather-ends (at-loop .loop .inv) (at-test .loop-test .left)) _ (at-nearest .nearest .ensures) _ _ (c .found .given .1)
+    let near = c .before .before in
+    let a = came near .args in
+    found-here (settledOf (a .params)) (omega arith) _ (dim-is near) (a .x) (point-room (came near)) (a .n) (a .t1) _ (measured near) _ (near .nearest .ensures)
+    _ _ (c .found .given .1)
 
 mul-m : tie.Need-mul-m Inv-loop μ-loop
 mul-m c = omega (arith, here (c .before))
@@ -67,13 +76,10 @@ returns-2 : tie.Need-returns-2 Inv-loop μ-loop
 returns-2 c =
     let absorbed = c .before .absorbed in
     let at-found = c .before .before .before .before in
-    let at-nearest = at-found .before .before in
-    let at-test = at-nearest .before in
-    let at-loop = at-test .before in
-    let a = came at-nearest .args in
-    tried-some (settledOf (a .params)) (omega arith) _ (at-loop .before .before .cut .ensures) (a .x) (point-room (came at-nearest))
-    (a .n) (a .t1) _ (gather-ends (at-loop .loop .inv) (at-test .loop-test .left)) _ (at-nearest .nearest .ensures) _ _ (at-found .found .given .1)
-    (a .t) _ (absorbed .result) (c .stands .result) (absorbed .ensures) (c .stands .ensures)
+    let near = at-found .before .before in
+    let a = came near .args in
+    tried-some (settledOf (a .params)) (omega arith) _ (dim-is near) (a .x) (point-room (came near)) (a .n) (a .t1) _ (measured near) _ (near .nearest .ensures)
+    _ _ (at-found .found .given .1) (a .t) _ (absorbed .result) (c .stands .result) (absorbed .ensures) (c .stands .ensures)
 
 pub try-merge-spec : {M : Type 1} → statement M
 try-merge-spec =

@@ -10,8 +10,8 @@ returns c = rw (eq-eqb _ _ (c .before .before .if1 .taken)) (c .add .ensures)
 
 returns-2 : tie.Need-returns-2
 returns-2 c =
-    let at-add-sign = c .before .before in
-    let at-if1 = at-add-sign .before .before .before in
+    let at-add-byte = c .before .before in
+    let at-if1 = at-add-byte .before .before .before in
     rw (ne-eqb _ _ (at-if1 .if1 .left)) (search both)
 
 pub add-heading-spec : {M : Type 1} → statement M
