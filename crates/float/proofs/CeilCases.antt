@@ -3,18 +3,19 @@ use mathlib.Core.Path.{_≡_, refl, sym, ap, _∙_, subst}
 use Prim.Native.Nat.{ℕ, zero, suc, _+_, _*_, _/_, _%_, _^_, _≤_, _<_}
 use native.Mathlib.Nat.{le-of-lt, div-lt-iff-lt-mul, div-add-mod', mod-one, zero-mod, zero-div}
 use native.Mathlib.Omega.{arith}
-use mathlib.Core.Bool.{Bool, true, false, not, _&&_, cond, true≢false}
+use mathlib.Core.Bool.{Bool, true, false, not, cond, true≢false}
 use lib.IntN.{ℤ, pos, negsuc}
-use lib.Dec.{T, ltb, leb, eqb, ltb→lt, lt→ltb, nltb→le, eqb→eq, not-T}
+use lib.Dec.{T, ltb, eqb, ltb→lt, lt→ltb, nltb→le, eqb→eq, not-T}
 use lib.Pow.{pow-pos}
 use lib.Ieee.{Float, nan, inf, fin, binary64, up, down, lt, neg, fits, toUnsigned, ofInt, ofBits}
-use lib.Ieee.Fits.{down-pos, eq→eqb, and-l, and-r}
+use lib.Ieee.Fits.{down-pos, eq→eqb}
 use lib.Ieee.Bits.{is-true}
 use Rattle.float.specs.Rounded.{nought, whole}
 use Rattle.float.specs.Cut.{wholes}
 use Rattle.float.specs.Ceil.{ceilOf}
 use Rattle.float.specs.Laws.Whole.{whole-is}
 use Rattle.float.specs.Laws.Compare.{lt-neg, lt-values, same}
+use Rattle.float.specs.Laws.Binary64.{few}
 
 -- 2^53: from here on every double is whole
 abbrev pub big : Float
@@ -140,15 +141,6 @@ above (fin false m e) p q =
     }
 
 -- ---- beyond: a double of 2 ^ 53 or more in size is whole
-pub few : (s : Bool) (m : ℕ) (e : ℤ) → T (fits binary64 (fin s m e)) → m < 2 ^ 53
-unfolding fits
-few s zero e f = omega arith
-few s (suc m) e f =
-    let a = eqb (suc m % 2) 1 in
-    let b = ltb (suc m) (2 ^ 53) in
-    let c = leb (down e) (2 ^ 1074) in
-    ltb→lt (suc m) (2 ^ 53) (and-r a b (and-l (a && b) c (and-l (a && b && c) (ltb (suc m * up e) (2 ^ 1024 * down e)) f)))
-
 big-whole : (s : Bool) (m : ℕ) (e : ℤ) → T (fits binary64 (fin s m e)) → 2 ^ 53 * down e ≤ m * up e * 1 → m * up e % down e ≡ 0
 big-whole s m (pos k) f h = mod-one (m * 2 ^ k)
 big-whole s m (negsuc k) f h = absurd (

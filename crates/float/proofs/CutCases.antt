@@ -16,8 +16,7 @@ use lib.Ieee.Digits.{size-le, size-reaches}
 use lib.Ieee.Fits.{down-pos, kept-lt, round-fits}
 use lib.Ieee.Exact.{round-exact}
 use lib.Ieee.Back.{whole-unique}
-use Rattle.float.proofs.Digits.{bits-opened, pattern, size-gt, size-scale, under}
-use Rattle.float.proofs.CeilCases.{few}
+use Rattle.float.specs.Laws.Binary64.{bits-opened, pattern, size-gt, size-scale, few, under}
 
 module _ (m : ℕ) (e : ℤ) where
   -- the value in units of the smallest double, and how many of its digits the pattern drops

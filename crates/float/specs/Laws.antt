@@ -4,6 +4,7 @@ pub mod Opened
 pub mod Compare
 pub mod Ordered
 pub mod Whole
+pub mod Binary64
 pub mod Units
 pub mod Bounds
 pub mod Ln

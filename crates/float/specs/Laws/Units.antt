@@ -7,12 +7,13 @@ use native.Mathlib.Nat.{mul-comm, mul-left-comm, mul-right-comm, mul-assoc, mul-
 use native.Mathlib.Omega.{arith}
 use mathlib.Core.Bool.{false, _&&_}
 use lib.IntN.{ℤ, pos, negsuc}
-use lib.Dec.{T, leb, ltb, eqb, ltb→lt, leb→le, lit<}
+use lib.Dec.{T, leb, ltb, eqb, leb→le, lit<}
 use lib.Pow.{pow-add, pow-pos, pow-mono, pow-lt}
 use lib.Ieee.{fin, binary64, up, down, round, fits}
 use lib.Ieee.Fits.{and-l, and-r, down-pos}
 use lib.Ieee.Digits.{back}
 use lib.Ieee.Exact.{HasValue, round-exact}
+use Rattle.float.specs.Laws.Binary64.{few, under}
 
 -- a double as a whole number of units of 2^−1074
 pub record Units (m : ℕ) (e : ℤ) : Type 0 where
@@ -40,14 +41,13 @@ in-units m e f =
     let B = ltb (suc m) (2 ^ 53) in
     let D = leb (down e) (2 ^ 1074) in
     let E = ltb (suc m * up e) (2 ^ 1024 * down e) in
-    let high : suc m * up e < 2 ^ 1024 * down e = ltb→lt (suc m * up e) (2 ^ 1024 * down e) (and-r (A && B && D) E f) in
     let p = place (suc m) e (leb→le (down e) (2 ^ 1074) (and-r (A && B) D (and-l (A && B && D) E f))) in
     record {
       power = p .0;
-      few = ltb→lt (suc m) (2 ^ 53) (and-r A B (and-l (A && B) D (and-l (A && B && D) E f)));
+      few = few false (suc m) e f;
       is = p .1;
       room = lt-of-mul-lt-mul-right (down e) (lt-of-le-of-lt (le-of-eq (sym (p .1)))
-          (lt-of-lt-of-le (mul-lt-mul-of-pos-right high (pow-pos 1074)) (le-of-eq (mul-right-comm (2 ^ 1024) (down e) (2 ^ 1074)))));
+          (lt-of-lt-of-le (mul-lt-mul-of-pos-right (under (suc m) e f) (pow-pos 1074)) (le-of-eq (mul-right-comm (2 ^ 1024) (down e) (2 ^ 1074)))));
     }
 
 -- halved t times
