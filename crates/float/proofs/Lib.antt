@@ -3,6 +3,5 @@ pub mod Tests
 pub mod Steps
 pub mod PowerBits
 pub mod Least
-pub mod Digits
+pub mod Exponent
 pub mod CeilCases
-pub mod CutCases

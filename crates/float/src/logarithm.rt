@@ -1,4 +1,6 @@
 // The natural logarithm of a number of 1 or more, and the one to base 2.
+use crate::binary64::BIAS;
+use crate::binary64::LEAD;
 use crate::order::is_finite;
 use crate::two_to::L;
 ghost use mathlib.Core.Path.{_≡_};
@@ -15,7 +17,7 @@ fn exponent(v: f64) -> u64
     requires { ⌜ T (isFinite v) ⌝ }
     ensures { λ r. ⌜ (r ≡ exponentOf v) × (r ≤ 1023) ⌝ }
 {
-    f64::to_bits(v) / 0x10_0000_0000_0000 - 1023
+    f64::to_bits(v) / LEAD - BIAS
 }
 
 // 2 to the power e.
@@ -23,7 +25,7 @@ fn power_up(e: u64) -> f64
     requires { ⌜ e ≤ 1023 ⌝ }
     ensures { λ r. ⌜ r ≡ plusPower e ⌝ }
 {
-    f64::from_bits((1023 + e) * 0x10_0000_0000_0000)
+    f64::from_bits((BIAS + e) * LEAD)
 }
 
 // For k from 20 down to 0, h becomes h * q + 1 / (2 * k + 1).

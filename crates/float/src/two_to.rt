@@ -1,4 +1,7 @@
 // Two to the y: a short power series for the part below 1, and a power of two made from its bits.
+use crate::binary64::BIAS;
+use crate::binary64::DIGITS;
+use crate::binary64::LEAD;
 ghost use mathlib.Core.Path.{_≡_};
 ghost use Prim.Native.Nat.{_≤_};
 ghost use lib.Dec.{T};
@@ -23,29 +26,33 @@ fn horner(z: f64) -> f64
     h
 }
 
-// y cut towards zero, for y below 0, by the exponent's cases.
+// y cut towards zero, for y below 0, by the cases of its exponent.
 fn cut(y: f64) -> f64
     requires { ⌜ T (lt y nought) ⌝ }
     ensures { λ r. ⌜ r ≡ cutOf y ⌝ }
 {
     let bits = f64::to_bits(-y);
-    let field = bits / 0x10_0000_0000_0000;
-    if field < 1023 {
+    let biased = bits / LEAD;
+    // Below 0: nothing of y is whole.
+    if biased < BIAS {
         return -0.0;
     }
-    if field < 1075 {
-        let digits = bits % 0x10_0000_0000_0000 + 0x10_0000_0000_0000;
-        return -((digits >> (1075 - field)) as f64);
+    let exponent = biased - BIAS;
+    // 0 to 51: the digits behind the point are dropped.
+    if exponent < DIGITS {
+        let significand = LEAD + bits % LEAD;
+        return -((significand >> (DIGITS - exponent)) as f64);
     }
+    // 52 and above: y is whole, or infinite.
     y
 }
 
-// 2 to the power -c: the exponent's field is 1023 less c.
+// 2 to the power -c, by its biased exponent.
 fn power_down(c: u64) -> f64
     requires { ⌜ c ≤ 1022 ⌝ }
     ensures { λ r. ⌜ r ≡ minusPower c ⌝ }
 {
-    f64::from_bits((1023 - c) * 0x10_0000_0000_0000)
+    f64::from_bits((BIAS - c) * LEAD)
 }
 
 // Two to the y, for every y.

@@ -1,19 +1,20 @@
--- The bits of a double by its value, and what a double of the format is. Assumes nothing.
+-- What the bits of a double tell of its value: the exponent by the digits of its whole part, the significand by the value's leading digits. Assumes nothing.
 use mathlib.Core.Path.{_≡_, refl, sym, ap, _∙_}
 use Prim.Native.Nat.{ℕ, zero, suc, _+_, _-_, _*_, _/_, _%_, _^_, _≤_, _<_}
 use native.Mathlib.Nat.{le-trans, le-of-eq, lt-of-lt-of-le, lt-of-le-of-lt, zero-mul, mul-pos, lt-of-not-le, not-le-of-lt, mul-right-comm}
 use native.Mathlib.Nat.{mul-le-mul-right, mul-lt-mul-of-pos-right, le-div-iff-mul-le, div-lt-iff-lt-mul}
 use native.Mathlib.Omega.{arith}
-use mathlib.Core.Bool.{Bool, false, not, _&&_}
+use mathlib.Core.Bool.{Bool, false, _&&_}
 use lib.IntN.{ℤ}
 use lib.Dec.{T, ltb, leb, eqb, ltb→lt}
 use lib.Pow.{pow-add, pow-pos, pow-mono}
 use lib.Ieee.{fin, binary64, up, down, size, fits, toBits}
 use lib.Ieee.Digits.{size-lt, size-le, size-reaches}
 use lib.Ieee.Fits.{down-pos, kept-lt, and-l, and-r}
+use Rattle.float.specs.Binary64.{bias, biased, significand}
 
 -- ---- how many digits
-pub size-gt : (n j : ℕ) → 2 ^ j ≤ n → j < size n
+size-gt : (n j : ℕ) → 2 ^ j ≤ n → j < size n
 size-gt n j h = lt-of-not-le (λ (g : size n ≤ j). not-le-of-lt (lt-of-lt-of-le (size-lt n) (pow-mono g)) h)
 
 join : (z t x : ℕ) → 0 < z → x ≤ z + t → z - 1 + t < x → x ≡ z + t
@@ -23,7 +24,7 @@ pred-lt : (z : ℕ) → 0 < z → z - 1 < z
 pred-lt z h = omega arith
 
 -- 2 ^ t times a fraction of 1 at least has t more digits in its whole part
-pub size-scale : (n c t : ℕ) → 0 < c → 0 < size (n / c) → size (n * 2 ^ t / c) ≡ size (n / c) + t
+size-scale : (n c t : ℕ) → 0 < c → 0 < size (n / c) → size (n * 2 ^ t / c) ≡ size (n / c) + t
 size-scale n c t C Z =
     let z = size (n / c) in
     let lo : 2 ^ (z - 1) * c ≤ n = le-div-iff-mul-le C .0 (size-reaches (n / c) (z - 1) (pred-lt z Z)) in
@@ -35,23 +36,48 @@ size-scale n c t C Z =
     join z t (size (n * 2 ^ t / c)) Z (size-le (n * 2 ^ t / c) (z + t) (div-lt-iff-lt-mul C .1 hi'))
     (size-gt (n * 2 ^ t / c) (z - 1 + t) (le-div-iff-mul-le C .1 lo'))
 
--- ---- the pattern of n units, n having 53 digits or more
-pub pattern : (n : ℕ) → 53 ≤ size n → (0 + (size n - 53) * 0x10_0000_0000_0000 + n / 2 ^ (size n - 53)) / 0x10_0000_0000_0000 ≡ size n - 52
-pattern n h =
-    let k = size n - 53 in
-    let hi : n / 2 ^ k < 2 ^ 53 = kept-lt 53 n in
-    let lo : 2 ^ 52 ≤ n / 2 ^ k = le-div-iff-mul-le (pow-pos k) .1 (le-trans (le-of-eq (sym (pow-add 2 52 k))) (size-reaches n (52 + k) (omega arith))) in
-    omega arith
+module _ (m : ℕ) (e : ℤ) where
+  -- the value in units of the smallest double, and how many of its digits the bits drop
+  abbrev pub units : ℕ
+  units = m * up e * 2 ^ 1074 / down e
 
--- a double's bits, by its size in units of 2^−1074
-pub bits-opened :
-    (m : ℕ) (e : ℤ) →
-    let units = m * up e * 2 ^ 1074 / down e in
-    toBits binary64 (fin false m e) ≡ 0 + (size units - 53) * 0x10_0000_0000_0000 + units / 2 ^ (size units - 53)
-unfolding toBits
-bits-opened m e = refl
+  abbrev pub dropped : ℕ
+  dropped = size units - 53
 
--- ---- a double of the format
+  -- the leading digits stand right above the number of those that are dropped
+  pub bits-opened : toBits binary64 (fin false m e) ≡ 0 + dropped * 0x10_0000_0000_0000 + units / 2 ^ dropped
+  unfolding toBits
+  bits-opened = refl
+
+  pub leading-few : units / 2 ^ dropped < 2 ^ 53
+  leading-few = kept-lt 53 units
+
+  -- ---- a double of 1 or more
+  module _ (h : down e ≤ m * up e) where
+    -- the whole part has a digit
+    pub some : 0 < size (m * up e / down e)
+    some = size-gt (m * up e / down e) 0 (le-div-iff-mul-le (down-pos e) .1 (omega arith))
+
+    in-units : size units ≡ size (m * up e / down e) + 1074
+    in-units = size-scale (m * up e) (down e) 1074 (down-pos e) some
+
+    leading-all : 2 ^ 52 ≤ units / 2 ^ dropped
+    leading-all =
+        le-div-iff-mul-le (pow-pos dropped) .1
+        (le-trans (le-of-eq (sym (pow-add 2 52 dropped))) (size-reaches units (52 + dropped) (omega (arith, in-units, some))))
+
+    -- what the bits drop, by the whole part's digits
+    pub dropped-is : dropped + 53 ≡ size (m * up e / down e) + 1074
+    dropped-is = omega (arith, in-units, some)
+
+    -- the exponent is one less than the whole part's digits
+    pub biased-is : biased (fin false m e) + 1 ≡ size (m * up e / down e) + bias
+    biased-is = omega (arith, bits-opened, leading-few, leading-all, in-units, some)
+
+    pub significand-is : significand (fin false m e) ≡ units / 2 ^ dropped
+    significand-is = omega (arith, bits-opened, leading-few, leading-all)
+
+-- ---- what a double of the format is
 -- it has at most 53 digits
 pub few : (s : Bool) (m : ℕ) (e : ℤ) → T (fits binary64 (fin s m e)) → m < 2 ^ 53
 unfolding fits

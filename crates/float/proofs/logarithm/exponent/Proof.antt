@@ -2,7 +2,7 @@
 use mathlib.Core.Path.{sym, subst}
 use native.Mathlib.Omega.{arith}
 use lib.Dec.{T}
-use Rattle.float.proofs.Digits.{Scaled, scaled}
+use Rattle.float.proofs.Exponent.{Scaled, scaled}
 use Rattle.float.proofs.logarithm.exponent.Statement.{statement}
 use Rattle.float.proofs.logarithm.exponent.Tie as tie
 
@@ -13,10 +13,10 @@ float-to-bits-result : tie.Need-float-to-bits-result
 float-to-bits-result c = known c .no-nan
 
 sub-result : tie.Need-sub-result
-sub-result c = omega (arith, known c .field)
+sub-result c = omega (arith, known c .stored)
 
 returns : tie.Need-returns
-returns c = (omega (arith, known c .field), omega (arith, known c .field, known c .small))
+returns c = (omega (arith, known c .stored), omega (arith, known c .stored, known c .small))
 
 pub exponent-spec : {M : Type 1} → statement M
 exponent-spec = tie.close (tie.spec float-to-bits-result sub-result returns)
