@@ -1,4 +1,4 @@
--- The bits of a power of two: the exponent's field is 1023 and the power, from 1 to 2046, and the digits are 0. Assumes nothing.
+-- The bits of a power of two: the biased exponent is the bias and the power, from 1 to 2046, and the digits are 0. Assumes nothing.
 use mathlib.Core.Path.{_≡_, sym, ap, _∙_, subst}
 use Prim.Native.Nat.{ℕ, zero, suc, _+_, _-_, _*_, _/_, _%_, _≤_, _<_}
 use native.Mathlib.Nat.{not-le-of-lt}
