@@ -11,7 +11,7 @@ use lib.Pow.{pow-add, pow-pos, pow-mono}
 use lib.Ieee.{fin, binary64, up, down, size, fits, toBits}
 use lib.Ieee.Digits.{size-lt, size-le, size-reaches}
 use lib.Ieee.Fits.{down-pos, kept-lt, and-l, and-r}
-use Rattle.float.specs.Binary64.{bias, biased, significand}
+use Rattle.float.specs.Binary64.{bias, digits, biased, significand}
 
 -- ---- how many digits
 size-gt : (n j : ℕ) → 2 ^ j ≤ n → j < size n
@@ -45,7 +45,7 @@ module _ (m : ℕ) (e : ℤ) where
   dropped = size units - 53
 
   -- the leading digits stand right above the number of those that are dropped
-  pub bits-opened : toBits binary64 (fin false m e) ≡ 0 + dropped * 0x10_0000_0000_0000 + units / 2 ^ dropped
+  pub bits-opened : toBits binary64 (fin false m e) ≡ 0 + dropped * 2 ^ digits + units / 2 ^ dropped
   unfolding toBits
   bits-opened = refl
 
@@ -61,10 +61,10 @@ module _ (m : ℕ) (e : ℤ) where
     in-units : size units ≡ size (m * up e / down e) + 1074
     in-units = size-scale (m * up e) (down e) 1074 (down-pos e) some
 
-    leading-all : 2 ^ 52 ≤ units / 2 ^ dropped
+    leading-all : 2 ^ digits ≤ units / 2 ^ dropped
     leading-all =
         le-div-iff-mul-le (pow-pos dropped) .1
-        (le-trans (le-of-eq (sym (pow-add 2 52 dropped))) (size-reaches units (52 + dropped) (omega (arith, in-units, some))))
+        (le-trans (le-of-eq (sym (pow-add 2 digits dropped))) (size-reaches units (digits + dropped) (omega (arith, in-units, some))))
 
     -- what the bits drop, by the whole part's digits
     pub dropped-is : dropped + 53 ≡ size (m * up e / down e) + 1074

@@ -54,10 +54,10 @@ module _ (m : ℕ) (e : ℤ) where
       ∙ mul-div-mul-right (m * up e) (down e) (pow-pos 1074))
 
   -- 52 and above: the size is 2^52 at least
-  far : (x : ℕ) → biased (fin false m e) ≡ x + bias → digits ≤ x → 2 ^ 52 * down e ≤ m * up e
+  far : (x : ℕ) → biased (fin false m e) ≡ x + bias → digits ≤ x → 2 ^ digits * down e ≤ m * up e
   far x b l =
       let g : down e ≤ m * up e = one-at-least (omega (arith, b)) in
-      le-div-iff-mul-le (down-pos e) .0 (size-reaches (m * up e / down e) 52 (omega (arith, b, l, biased-is m e g)))
+      le-div-iff-mul-le (down-pos e) .0 (size-reaches (m * up e / down e) digits (omega (arith, b, l, biased-is m e g)))
 
 -- ---- a double's whole part is a double
 pub whole-part : (m : ℕ) (e : ℤ) → T (fits binary64 (fin false m e)) → Is (whole (m * up e / down e)) (m * up e / down e)
@@ -71,7 +71,7 @@ whole-part m (pos j) f =
     (subst (λ (x : ℕ). x < 2 ^ 2098) (sym u) (mul-lt-mul-of-pos-right (under m (pos j) f) (pow-pos 1074))) (sym u ∙ sym (mul-one (m * 2 ^ (1074 + j)))))
 
 -- from 2^52 on it is the double itself
-whole-far : (m : ℕ) (e : ℤ) → T (fits binary64 (fin false m e)) → 2 ^ 52 * down e ≤ m * up e → whole (m * up e / down e) ≡ fin false m e
+whole-far : (m : ℕ) (e : ℤ) → T (fits binary64 (fin false m e)) → 2 ^ digits * down e ≤ m * up e → whole (m * up e / down e) ≡ fin false m e
 unfolding ofInt
 whole-far m (negsuc j) f h = absurd (
     let l : m < 2 ^ 53 = few false m (negsuc j) f in
