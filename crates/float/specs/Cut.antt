@@ -13,7 +13,7 @@ wholes nan = 0
 wholes (inf s) = 0
 wholes (fin s m e) = m * up e / down e
 
--- the whole ones with the sign; infinity and NaN stay themselves
+-- "y cut towards zero": the whole ones with the sign; infinity and NaN stay themselves
 unfoldable pub cutOf : Float → Float
 cutOf nan = nan
 cutOf (inf s) = inf s
@@ -33,7 +33,7 @@ pub record ByExponent (y : Float) : Type 0 where
       digits ≤ e →
       cutOf y ≡ y
 
--- y = −a / c is cut to −n, with n × c ≤ a < (n + 1) × c
+-- "y cut towards zero" in plain arithmetic: y = −a / c is cut to −n, with n × c ≤ a < (n + 1) × c
 pub record TowardsZero (y : Float) (a c : ℕ) : Type 0 where
   pub n : ℕ
   pub is : HasValue (cutOf y) true n 1

@@ -37,18 +37,20 @@ size-scale n c t C Z =
     (size-gt (n * 2 ^ t / c) (z - 1 + t) (le-div-iff-mul-le C .1 lo'))
 
 module _ (m : ℕ) (e : ℤ) where
-  -- the value in units of the smallest double, and how many of its digits the bits drop
+  -- the value in units of the smallest double
   abbrev pub units : ℕ
   units = m * up e * 2 ^ 1074 / down e
 
+  -- how many of its digits the bits drop
   abbrev pub dropped : ℕ
   dropped = size units - 53
 
-  -- the leading digits stand right above the number of those that are dropped
+  -- that number stands above the digits that are kept
   pub bits-opened : toBits binary64 (fin false m e) ≡ 0 + dropped * 2 ^ digits + units / 2 ^ dropped
   unfolding toBits
   bits-opened = refl
 
+  -- at most 53 are kept
   pub leading-few : units / 2 ^ dropped < 2 ^ 53
   leading-few = kept-lt 53 units
 
@@ -58,22 +60,21 @@ module _ (m : ℕ) (e : ℤ) where
     pub some : 0 < size (m * up e / down e)
     some = size-gt (m * up e / down e) 0 (le-div-iff-mul-le (down-pos e) .1 (omega arith))
 
-    in-units : size units ≡ size (m * up e / down e) + 1074
-    in-units = size-scale (m * up e) (down e) 1074 (down-pos e) some
+    -- it has 1,074 digits less than the value has in units
+    pub units-size : size units ≡ size (m * up e / down e) + 1074
+    units-size = size-scale (m * up e) (down e) 1074 (down-pos e) some
 
+    -- here no fewer than 53 are kept
     leading-all : 2 ^ digits ≤ units / 2 ^ dropped
     leading-all =
         le-div-iff-mul-le (pow-pos dropped) .1
-        (le-trans (le-of-eq (sym (pow-add 2 digits dropped))) (size-reaches units (digits + dropped) (omega (arith, in-units, some))))
-
-    -- what the bits drop, by the whole part's digits
-    pub dropped-is : dropped + 53 ≡ size (m * up e / down e) + 1074
-    dropped-is = omega (arith, in-units, some)
+        (le-trans (le-of-eq (sym (pow-add 2 digits dropped))) (size-reaches units (digits + dropped) (omega (arith, units-size, some))))
 
     -- the exponent is one less than the whole part's digits
     pub biased-is : biased (fin false m e) + 1 ≡ size (m * up e / down e) + bias
-    biased-is = omega (arith, bits-opened, leading-few, leading-all, in-units, some)
+    biased-is = omega (arith, bits-opened, leading-few, leading-all, units-size, some)
 
+    -- the significand is the digits that are kept
     pub significand-is : significand (fin false m e) ≡ units / 2 ^ dropped
     significand-is = omega (arith, bits-opened, leading-few, leading-all)
 

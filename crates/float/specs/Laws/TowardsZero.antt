@@ -18,7 +18,7 @@ use Rattle.float.specs.Rounded.{nought, whole, Is}
 use Rattle.float.specs.Binary64.{bias, digits, biased, significand}
 use Rattle.float.specs.Cut.{cutOf, ByExponent, TowardsZero}
 use Rattle.float.specs.Laws.Whole.{whole-is}
-use Rattle.float.specs.Laws.Binary64.{units, dropped, bits-opened, leading-few, some, dropped-is, biased-is, significand-is, few, under}
+use Rattle.float.specs.Laws.Binary64.{units, dropped, bits-opened, leading-few, some, units-size, biased-is, significand-is, few, under}
 
 -- ---- what the bits of m × 2^e tell of its whole part. m being odd, e is not IEEE 754's exponent; that is x
 module _ (m : ℕ) (e : ℤ) where
@@ -29,6 +29,7 @@ module _ (m : ℕ) (e : ℤ) where
       (lt-of-lt-of-le (mul-lt-mul-of-pos-right h (pow-pos 1074)) (le-of-eq (mul-comm (down e) (2 ^ 1074)))) in
       omega (arith, bits-opened m e, leading-few m e, size-le (units m e) 1074 u)
 
+  -- so what has one of 0 or more is 1 at least
   one-at-least : bias ≤ biased (fin false m e) → down e ≤ m * up e
   one-at-least h =
       let g : down e < suc (m * up e) = lt-of-not-le (λ (l : suc (m * up e) ≤ down e). not-le-of-lt (under-one (omega arith)) h) in
@@ -46,7 +47,7 @@ module _ (m : ℕ) (e : ℤ) where
       significand (fin false m e) / 2 ^ (digits - x) ≡ m * up e / down e
   moved x b l =
       let g : down e ≤ m * up e = one-at-least (omega (arith, b)) in
-      let t : dropped m e + (digits - x) ≡ 1074 = omega (arith, b, l, dropped-is m e g, biased-is m e g) in
+      let t : dropped m e + (digits - x) ≡ 1074 = omega (arith, b, l, units-size m e g, biased-is m e g) in
       rw (significand-is m e g)
       (div-div-eq-div-mul (units m e) (2 ^ dropped m e) (2 ^ (digits - x))
       ∙ ap (λ (n : ℕ). units m e / n) (sym (pow-add 2 (dropped m e) (digits - x)) ∙ ap (λ (n : ℕ). 2 ^ n) t)
@@ -60,7 +61,7 @@ module _ (m : ℕ) (e : ℤ) where
       le-div-iff-mul-le (down-pos e) .0 (size-reaches (m * up e / down e) digits (omega (arith, b, l, biased-is m e g)))
 
 -- ---- a double's whole part is a double
-pub whole-part : (m : ℕ) (e : ℤ) → T (fits binary64 (fin false m e)) → Is (whole (m * up e / down e)) (m * up e / down e)
+whole-part : (m : ℕ) (e : ℤ) → T (fits binary64 (fin false m e)) → Is (whole (m * up e / down e)) (m * up e / down e)
 unfolding ofInt
 whole-part m (negsuc j) f = whole-is (m * 1 / 2 ^ suc j) (le-trans (div-le-self (m * 1) (2 ^ suc j)) (omega (arith, few false m (negsuc j) f)))
 whole-part m (pos j) f =
