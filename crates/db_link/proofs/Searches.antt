@@ -7,14 +7,12 @@ use mathlib.Core.List.{List}
 use borrow.Author.Tests.{eq-eqb, ne-eqb}
 use lib.Ieee.{Float, lt}
 use lib.ListN.{length, getD}
-use Rattle.float.specs.Rounded.{nought}
 use Rattle.lists.specs.Laws.Rest.{rest-step, rest-end}
 use Rattle.lists.specs.Rest.{rest}
 use Rattle.model.specs.Any.{any}
 use Rattle.model.specs.declared.micro.MicroId.{MicroId}
 use Rattle.model.specs.declared.link.Link.{Link}
-use Rattle.model.specs.DbInsert.{fadedLink, sameEnds}
-use Rattle.model.specs.DbCluster.{ofLink}
+use Rattle.model.specs.DbInsert.{fadedLink}
 use Rattle.db_link.specs.Among.{isAmong, staysAmong}
 
 -- ---- whether a creation number is among the first n
@@ -51,19 +49,3 @@ module _ (lambda floor t : Float) (ids : List MicroId) (l : Link) where
   -- the lower end is lost
   pub lost-lo : isAmong ids (l .lo) ≡ false → false ≡ staysAmong lambda floor t ids l
   lost-lo x = rw x
-
--- ---- what f says of the link of k's ends
-module _ (f : Link → Float) (k : Link) (n i : ℕ) (ls : List Link) where
-  pub link-here : (z : Link) → i < n → n ≤ length ls → sameEnds (getD ls i z) k ≡ true → ofLink f k (rest n i ls) ≡ f (getD ls i z)
-  unfolding ofLink
-  link-here z h g e = rw (rest-step n i ls z, e)
-
-  -- another link stands at i
-  pub link-next : (z : Link) → i < n → n ≤ length ls → sameEnds (getD ls i z) k ≡ false → ofLink f k (rest n (i + 1) ls) ≡ ofLink f k (rest n i ls)
-  unfolding ofLink
-  link-next z h g e = rw (rest-step n i ls z, e)
-
-  -- no link is left
-  pub link-end : n ≤ i → ofLink f k (rest n i ls) ≡ nought
-  unfolding ofLink
-  link-end h = rw (rest-end n i ls)

@@ -1,6 +1,5 @@
--- Links: their order, which of them stay, how they are listed, and the density between two micro-clusters.
+-- Links: their order, which of them stay, and how they are listed.
 pub mod Order
 pub mod Among
 pub mod Listed
-pub mod Between
 pub mod Laws

@@ -16,7 +16,7 @@ pub struct Links {
 }
 
 // Whether id is one of the first n.
-pub(crate) fn is_among(ids: [MicroId; MICROS], n: usize, id: MicroId) -> bool
+pub fn is_among(ids: [MicroId; MICROS], n: usize, id: MicroId) -> bool
     ensures { λ r. ⌜ r ≡ isAmong (take n ids) id ⌝ }
 {
     let m = lists::cut(n, MICROS);

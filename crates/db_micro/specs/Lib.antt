@@ -1,4 +1,3 @@
--- Micro-clusters in an array: what is held of them, how they are listed, and the laws of both.
+-- Micro-clusters in an array: what is held of them, and how they are listed.
 pub mod Held
 pub mod Listed
-pub mod Laws

@@ -7,5 +7,4 @@ pub use cleanup::Micros;
 pub use cleanup::retained;
 pub use identity::bodies;
 pub use identity::ids_of;
-pub use weight::mean_weight;
 pub use weight::strong_ones;

@@ -1,13 +1,13 @@
 // What a DBSTREAM reads out. Apart from the stream, since a check grows with the functions over so large a struct.
+mod connected;
+
+pub use connected::connectivity;
 use dbstream::DbStream;
-use model::Connectivity;
-use model::MicroId;
 use model::Prediction;
 use model::ReadOut;
 ghost use mathlib.Core.Path.{_≡_};
-ghost use Rattle.model.specs.Answers.{predictionSaid, connectivitySaid};
+ghost use Rattle.model.specs.Answers.{predictionSaid};
 ghost use Rattle.model.specs.ReadOut.{clustersIn};
-ghost use Rattle.model.specs.DbCluster.{connectivityOf};
 ghost use Rattle.model.specs.Dbstream.{predictOf, labelsReadOf, statisticsOf};
 ghost use Rattle.readout.specs.Told.{labelsTold, statisticsTold};
 ghost use Rattle.dbstream.specs.View.{view};
@@ -71,28 +71,5 @@ pub fn micro_stats(
         centres,
         weights,
         radii,
-    )
-}
-
-// The faded link of two live micro-clusters over the mean of their stored weights.
-pub fn connectivity(stream: DbStream, a: MicroId, b: MicroId) -> Connectivity
-    ensures { λ r. ⌜ connectivitySaid r ≡ connectivityOf (view stream) a b ⌝ }
-{
-    let n = stream.count;
-    let micros = stream.micros;
-    let ids = db_micro::ids_of(micros, n);
-    let mean = db_micro::mean_weight(micros, n, a, b);
-    let links = stream.links;
-    let lambda = stream.params.settings.lambda;
-    db_link::connectivity(
-        links,
-        stream.link_count,
-        ids,
-        n,
-        a,
-        b,
-        mean,
-        lambda,
-        stream.t,
     )
 }

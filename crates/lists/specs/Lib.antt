@@ -1,4 +1,5 @@
--- Loops over lists of any element type: what is kept, what is left, and their laws.
+-- Loops over lists of any element type: what is kept, what is found, what is left, and their laws.
 pub mod Retain
+pub mod Search
 pub mod Rest
 pub mod Laws

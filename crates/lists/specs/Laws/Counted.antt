@@ -7,9 +7,10 @@ use mathlib.Core.List.{List, _++_, map}
 use lib.ListN.{length, take, getD, set, length-set}
 use lib.Seq.{length-take-le}
 use Rattle.lists.specs.Retain.{retain}
+use Rattle.lists.specs.Search.{firstOf}
 use Rattle.lists.specs.Laws.Rest.{cut-start, cut-take}
 use Rattle.lists.specs.Rest.{rest}
-use Rattle.lists.specs.Laws.Loops.{gather-step, gather-end, retain-take, retain-drop, retain-end}
+use Rattle.lists.specs.Laws.Loops.{gather-step, gather-end, retain-take, retain-drop, retain-end, search-here, search-next, search-end}
 
 -- ---- a map into another array: `out[i] = f(l[i])` for i from 0
 pub record Gathered {A B : Type 0} (f : A → B) (m n k : ℕ) (l : List A) (out : List B) (i : ℕ) : Type 0 where
@@ -95,3 +96,38 @@ module _ {A : Type 0} {p : A → Bool} {m n k : ℕ} {l₀ : List A} where
     -- as many are kept as the count says
     pub kept-length : j ≡ length (take j l)
     kept-length = sym (length-take-le j l (omega (arith, kept-fit, g .places)))
+
+-- ---- a search: `if p(l[i]) { return f(l[i]); }` for i from 0, and d after it
+pub record Searched {A B : Type 0} (p : A → Bool) (f : A → B) (d : B) (m n k : ℕ) (l : List A) (i : ℕ) : Type 0 where
+  pub cut : k ≡ min n m
+  pub places : length l ≡ m
+  pub most : i ≤ k
+  pub whole : firstOf p f d (rest k i l) ≡ firstOf p f d (take n l)
+
+module _ {A B : Type 0} {p : A → Bool} {f : A → B} {d : B} {m n k : ℕ} {l : List A} where
+  pub search-starts : k ≡ min n m → length l ≡ m → Searched p f d m n k l 0
+  search-starts e h = record { cut = e; places = h; most = omega arith; whole = ap (firstOf p f d) (cut-start k n m l e h) }
+
+  module _ {i : ℕ} (g : Searched p f d m n k l i) where
+    -- v is what f says of the element at i, and p holds of it
+    pub search-finds :
+        {v : B} (z : A) →
+        i < k →
+        p (getD l i z) ≡ true →
+        v ≡ f (getD l i z) →
+        v ≡ firstOf p f d (take n l)
+    search-finds z h t e = e ∙ sym (search-here p f d k i l z h (omega (arith, g .cut, g .places)) t) ∙ g .whole
+
+    -- p does not hold of it
+    pub search-goes : (z : A) → i < k → p (getD l i z) ≡ false → Searched p f d m n k l (i + 1)
+    search-goes z h t =
+        record {
+          cut = g .cut;
+          places = g .places;
+          most = omega arith;
+          whole = search-next p f d k i l z h (omega (arith, g .cut, g .places)) t ∙ g .whole;
+        }
+
+    -- none is left
+    pub search-ends : k ≤ i → d ≡ firstOf p f d (take n l)
+    search-ends h = sym (search-end p f d k i l h) ∙ g .whole

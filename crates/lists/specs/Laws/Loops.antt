@@ -8,6 +8,7 @@ use native.Mathlib.Omega.{arith}
 use lib.ListN.{length, take, getD, set}
 use lib.Seq.{take-suc-set, append-snoc}
 use Rattle.lists.specs.Retain.{retain}
+use Rattle.lists.specs.Search.{firstOf}
 use Rattle.lists.specs.Laws.Rest.{rest-step, rest-end, rest-set}
 use Rattle.lists.specs.Rest.{rest}
 
@@ -77,3 +78,29 @@ module _ {ℓ} {A B : Type ℓ} (f : A → B) (n i : ℕ) (l : List A) (out : Li
   -- nothing is left to gather
   pub gather-end : n ≤ i → take i out ++ map f (rest n i l) ≡ take i out
   gather-end h = rw (rest-end n i l) (append-nil (take i out))
+
+-- ---- a search: `if p(l[i]) { return f(l[i]); }` for i from 0. Left is `rest n i l`
+module _ {A B : Type 0} (p : A → Bool) (f : A → B) (d : B) (n i : ℕ) (l : List A) where
+  pub search-here :
+      (z : A) →
+      i < n →
+      n ≤ length l →
+      p (getD l i z) ≡ true →
+      firstOf p f d (rest n i l) ≡ f (getD l i z)
+  unfolding firstOf
+  search-here z h k t = rw (rest-step n i l z, t)
+
+  -- p does not hold of the element at i
+  pub search-next :
+      (z : A) →
+      i < n →
+      n ≤ length l →
+      p (getD l i z) ≡ false →
+      firstOf p f d (rest n (i + 1) l) ≡ firstOf p f d (rest n i l)
+  unfolding firstOf
+  search-next z h k t = rw (rest-step n i l z, t)
+
+  -- nothing is left to look at
+  pub search-end : n ≤ i → firstOf p f d (rest n i l) ≡ d
+  unfolding firstOf
+  search-end h = rw (rest-end n i l)

@@ -5,6 +5,7 @@ use mathlib.Core.List.{List, [], _∷_, _++_, map}
 use mathlib.Core.Bool.{Bool, true, false, cond}
 use lib.ListN.{length, take, drop, getD, set}
 use Rattle.lists.specs.Retain.{retain}
+use Rattle.lists.specs.Search.{firstOf}
 
 module _ {ℓ} {A B : Type ℓ} (f : A → B) where
   pub map-take : (n : ℕ) (l : List A) → map f (take n l) ≡ take n (map f l)
@@ -51,3 +52,11 @@ module _ {ℓ} {A B : Type ℓ} (f : A → B) where
           map f (cond t (x ∷ retain (λ (a : A). p (f a)) xs) (retain (λ (a : A). p (f a)) xs)) ≡ cond t (f x ∷ retain p (map f xs)) (retain p (map f xs))
       go true e = ap (λ (r : List B). f x ∷ r) e
       go false e = e
+
+-- a map and a search
+pub map-first :
+    {A B C : Type 0} (g : A → B) (p : B → Bool) (f : B → C) (d : C) (l : List A) →
+    firstOf (λ (a : A). p (g a)) (λ (a : A). f (g a)) d l ≡ firstOf p f d (map g l)
+unfolding firstOf
+map-first g p f d [] = refl
+map-first {A} {B} {C} g p f d (x ∷ xs) = ap (λ (r : C). cond (p (g x)) (f (g x)) r) (map-first g p f d xs)

@@ -1,2 +1,0 @@
--- What the proof of `connectivity` cites.
-pub mod Connected

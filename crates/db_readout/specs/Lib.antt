@@ -1,0 +1,3 @@
+-- DBSTREAM's connectivity; what else it reads out both streams do (model's specs/ReadOut).
+pub mod Connectivity
+pub mod Laws
