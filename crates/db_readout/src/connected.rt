@@ -1,4 +1,4 @@
-// Connectivity: the faded link of a pair over the mean of its stored weights.
+// Connectivity: the link of a pair over the mean of its weights, all faded to the present.
 use dbstream::DbStream;
 use model::Connectivity;
 use model::DbMicro;
@@ -10,7 +10,7 @@ ghost use mathlib.Core.Path.{_≡_};
 ghost use lib.ListN.{take};
 ghost use Rattle.model.specs.Answers.{connectivitySaid};
 ghost use Rattle.dbstream.specs.View.{view};
-ghost use Rattle.db_readout.specs.Connectivity.{areLive, storedWeight, meanWeight, densityOver, connectivityOf};
+ghost use Rattle.db_readout.specs.Connectivity.{areLive, weightNow, meanNow, densityOver, connectivityOf};
 
 // Whether both creation numbers are held, and different.
 fn are_live(micros: [DbMicro; MICROS], n: usize, a: MicroId, b: MicroId) -> bool
@@ -25,9 +25,9 @@ fn are_live(micros: [DbMicro; MICROS], n: usize, a: MicroId, b: MicroId) -> bool
     false
 }
 
-// The weight as stored of the micro-cluster of a creation number; 0 without one.
-fn stored_weight(micros: [DbMicro; MICROS], n: usize, id: MicroId) -> f64
-    ensures { λ r. ⌜ r ≡ storedWeight (take n micros) id ⌝ }
+// The weight of the micro-cluster of a creation number, faded to t; 0 without one.
+fn weight_now(micros: [DbMicro; MICROS], n: usize, id: MicroId, lambda: f64, t: f64) -> f64
+    ensures { λ r. ⌜ r ≡ weightNow lambda t (take n micros) id ⌝ }
 {
     let k = lists::cut(n, MICROS);
     let mut i: usize = 0;
@@ -35,23 +35,31 @@ fn stored_weight(micros: [DbMicro; MICROS], n: usize, id: MicroId) -> f64
         let m = micros[i];
         let held = m.id;
         if held.0 == id.0 {
-            return m.body.cf.w;
+            let body = m.body;
+            return body.faded_weight(lambda, t);
         }
         i += 1;
     }
     0.0
 }
 
-// The mean of two of them.
-fn mean_weight(micros: [DbMicro; MICROS], n: usize, a: MicroId, b: MicroId) -> f64
-    ensures { λ r. ⌜ r ≡ meanWeight (take n micros) a b ⌝ }
+// The mean of the weights of two.
+fn mean_weight(
+    micros: [DbMicro; MICROS],
+    n: usize,
+    a: MicroId,
+    b: MicroId,
+    lambda: f64,
+    t: f64,
+) -> f64
+    ensures { λ r. ⌜ r ≡ meanNow lambda t (take n micros) a b ⌝ }
 {
-    let wa = stored_weight(micros, n, a);
-    let wb = stored_weight(micros, n, b);
+    let wa = weight_now(micros, n, a, lambda, t);
+    let wb = weight_now(micros, n, b, lambda, t);
     (wa + wb) / 2.0
 }
 
-// The link of a and b, faded to t, over the mean of their weights; 0 without a link.
+// The link of a and b, faded to t, over the mean of their weights; 0 without a link, and where the mean is 0.
 fn density(
     links: [Link; LINKS],
     count: usize,
@@ -63,6 +71,9 @@ fn density(
 ) -> f64
     ensures { λ r. ⌜ r ≡ densityOver lambda t mean (take count links) a b ⌝ }
 {
+    if mean == 0.0 {
+        return 0.0;
+    }
     let n = lists::cut(count, LINKS);
     let key = db_link::key_of(a, b, t);
     let mut i: usize = 0;
@@ -76,7 +87,7 @@ fn density(
     0.0
 }
 
-// The faded link of two live micro-clusters over the mean of their stored weights.
+// The link of two live micro-clusters over the mean of their weights, link and weights as faded by now.
 pub fn connectivity(stream: DbStream, a: MicroId, b: MicroId) -> Connectivity
     ensures { λ r. ⌜ connectivitySaid r ≡ connectivityOf (view stream) a b ⌝ }
 {
@@ -85,7 +96,7 @@ pub fn connectivity(stream: DbStream, a: MicroId, b: MicroId) -> Connectivity
     if are_live(micros, n, a, b) {
         let lambda = stream.params.settings.lambda;
         let t = stream.t;
-        let mean = mean_weight(micros, n, a, b);
+        let mean = mean_weight(micros, n, a, b, lambda, t);
         let links = stream.links;
         return Connectivity::Density(density(links, stream.link_count, a, b, mean, lambda, t));
     }

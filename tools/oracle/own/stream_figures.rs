@@ -77,11 +77,11 @@ impl DbStream<f64, Feature> {
         self.shared.len()
     }
 
-    /// The links as faded to the clock, in ascending order of their ends.
-    pub fn faded_links(&self) -> Vec<f64> {
+    /// The links' ends and values as faded to the clock, in ascending order of their ends.
+    pub fn faded_links(&self) -> Vec<([u64; 2], f64)> {
         let mut links: Vec<_> = self.shared.iter().collect();
         links.sort_unstable_by_key(|(k, _)| **k);
-        links.iter().map(|(_, s)| s.value * fade(self.lambda, self.t, s.last_t)).collect()
+        links.iter().map(|(k, s)| ([k.0, k.1], s.value * fade(self.lambda, self.t, s.last_t))).collect()
     }
 
     /// Question 9's first half: has the point a neighbour?
@@ -89,17 +89,21 @@ impl DbStream<f64, Feature> {
         self.micros.iter().any(|m| sq_euclidean(m.cf.mean(), x) <= self.radius2)
     }
 
-    /// Document 01's connectivity, "faded link / ((wa + wb)/2), with the weights as stored; 0 without a link"; none
-    /// unless both numbers are live and different.
+    /// Document 02's connectivity, "both weights are faded to the present as the link is. A pair whose mean faded weight
+    /// is 0 reads 0."; 0 without a link; none unless both numbers are live and different.
     pub fn connectivity(&self, a: u64, b: u64) -> Option<f64> {
-        let weight = |id: u64| self.micros.iter().find(|m| m.id == id).map(|m| m.cf.weight());
+        let weight = |id: u64| {
+            let m = self.micros.iter().find(|m| m.id == id)?;
+            Some(m.cf.weight() * fade(self.lambda, self.t, m.last_t))
+        };
         let (wa, wb) = (weight(a)?, weight(b)?);
         if a == b {
             return None;
         }
+        let mean = (wa + wb) / 2.0;
         Some(match self.shared.get(&pair(a, b)) {
-            None => 0.0,
-            Some(s) => s.value * fade(self.lambda, self.t, s.last_t) / ((wa + wb) / 2.0),
+            Some(s) if mean != 0.0 => s.value * fade(self.lambda, self.t, s.last_t) / mean,
+            _ => 0.0,
         })
     }
 }

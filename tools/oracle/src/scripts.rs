@@ -338,11 +338,17 @@ impl Author {
             Some(Stream::Db(s)) if s.micro_count() > 0 => {
                 let n = s.micro_count();
                 let live = [s.id(self.random.below(n)), s.id(self.random.below(n))];
-                match self.random.below(6) {
+                let links = s.faded_links();
+                match self.random.below(12) {
                     0 => [live[0], live[0]],
                     1 => [live[0], s.next_id()],
                     2 => [self.random.below(s.next_id() as usize + 1) as u64, live[1]],
                     3 => [u64::MAX, live[1]],
+                    4..8 if !links.is_empty() => links[self.random.below(links.len())].0,
+                    8..11 if !links.is_empty() => {
+                        let [lo, hi] = links[self.random.below(links.len())].0;
+                        [hi, lo]
+                    }
                     _ => live,
                 }
             }
@@ -466,7 +472,7 @@ impl Author {
                 if links.is_empty() || r.chance(0.3) {
                     (f64::from_bits(opening.operands[3]), r.pick(&s.micro_stats().1))
                 } else {
-                    (1.0, r.pick(&links))
+                    (1.0, r.pick(&links).1)
                 }
             }
             Some(Stream::Den(s)) if s.held() > 0 => {
@@ -618,6 +624,17 @@ impl Author {
         for p in [0.0, 1.5, 0.75, 10.0] {
             self.say_doubles(INSERT, &at(p));
             self.tell_all();
+        }
+        // A pair that shares a point; then one of it rests, then both, until the cleanup takes it.
+        for lambda in [0.25, 1.0 / 1024.0] {
+            self.say(OPEN_DB, &[1, bits(1.0), bits(lambda), bits(0.5), bits(1.0)]);
+            for p in [0.0, 1.5, 0.75, 0.0, 0.0, 0.75, 2.0, 10.0, 10.0, 10.0, 10.0, 10.0] {
+                self.say_doubles(INSERT, &at(p));
+                for pair in [[0, 1], [1, 0], [0, 2], [0, 0]] {
+                    self.say(CONNECTIVITY, &pair);
+                }
+                self.say(FIGURES, &[]);
+            }
         }
         // Births: −0 is stored as +0, and squares that overflow leave no ssd; a NaN first makes every nearest NaN.
         for v in SPECIALS {

@@ -27,7 +27,7 @@ returns c =
     ∙ ap₂ (λ (live : Bool) (mean : Float).
     firstNo ((live, refuses 12 []) ∷ []) (gives (densityOver (p .lambda) (s .t) mean (view s .held .links) (a .a) (a .b))))
     (sym (at-if1 .if1 .taken) ∙ at-are-live .are-live .ensures ∙ live-view (dimOf s) ms (a .a) (a .b))
-    (at-mean .mean-weight .ensures ∙ mean-view (dimOf s) ms (a .a) (a .b))
+    (at-mean .mean-weight .ensures ∙ mean-view (dimOf s) ms (p .lambda) (s .t) (a .a) (a .b))
 
 returns-2 : tie.Need-returns-2
 unfolding connectivityOf

@@ -7,7 +7,7 @@ use Rattle.db_readout.proofs.connected.mean_weight.Statement.{statement
 use Rattle.db_readout.proofs.connected.mean_weight.Tie as tie
 
 returns : tie.Need-returns
-returns c = ap₂ (λ (wa wb : Float). (wa ⊕ wb) ⊘ two) (c .before .stored-weight .ensures) (c .stored-weight2 .ensures)
+returns c = ap₂ (λ (wa wb : Float). (wa ⊕ wb) ⊘ two) (c .before .weight-now .ensures) (c .weight-now2 .ensures)
 
 pub mean-weight-spec : {M : Type 1} → statement M
 mean-weight-spec = tie.close (tie.spec (λ c κs. search needs) (λ c κs. search needs) returns)

@@ -1,31 +1,32 @@
--- `stored_weight` meets its contract. Assumes nothing.
+-- `weight_now` meets its contract. Assumes nothing.
 use Prim.Native.Nat.{_-_}
 use native.Mathlib.Omega.{arith}
-use mathlib.Core.Path.{refl}
 use borrow.Author.Needs.{needs}
 use borrow.Author.Tests.{eq-eqb, ne-eqb}
 use lib.Dec.{eqb}
 use Rattle.float.specs.Rounded.{nought}
 use Rattle.lists.specs.Laws.Counted.{Searched, search-starts, search-finds, search-goes, search-ends}
 use Rattle.model.specs.declared.micro.DbMicro.{DbMicro}
+use Rattle.model.specs.Body.{fadedWeight}
 use Rattle.model.specs.Limits.{microsMost}
-use Rattle.db_readout.proofs.connected.stored_weight.Statement.{statement}
-use Rattle.db_readout.proofs.connected.stored_weight.Tie as tie
+use Rattle.db_readout.proofs.connected.weight_now.Statement.{statement}
+use Rattle.db_readout.proofs.connected.weight_now.Tie as tie
 
 abbrev Inv-loop : tie.InvT-loop
-Inv-loop n id micros k i₀ i =
-    Searched (λ (m : DbMicro). eqb (m .id .0) (id .0)) (λ (m : DbMicro). m .body .cf .w) nought microsMost n k micros i
+Inv-loop n id lambda t micros k i₀ i =
+    Searched (λ (m : DbMicro). eqb (m .id .0) (id .0)) (λ (m : DbMicro). fadedWeight lambda t (m .body)) nought microsMost n k micros i
 
 abbrev μ-loop : tie.MeasureT-loop
-μ-loop n id micros k i₀ i = k - i
+μ-loop n id lambda t micros k i₀ i = k - i
 
 loop-holds : tie.Need-loop-holds Inv-loop μ-loop
 loop-holds c = search-starts (c .cut .ensures) (omega arith)
 
 returns : tie.Need-returns Inv-loop μ-loop
 returns c =
-    let at-test = c .before .before .before .before .before in
-    search-finds (at-test .before .loop .inv) _ (at-test .loop-test .taken) (eq-eqb _ _ (c .if1 .taken)) refl
+    let at-if1 = c .before .before in
+    let at-test = at-if1 .before .before .before .before .before in
+    search-finds (at-test .before .loop .inv) _ (at-test .loop-test .taken) (eq-eqb _ _ (at-if1 .if1 .taken)) (c .«faded-weight» .ensures)
 
 loop-again : tie.Need-loop-again Inv-loop μ-loop
 loop-again c =
@@ -35,8 +36,8 @@ loop-again c =
 returns-2 : tie.Need-returns-2 Inv-loop μ-loop
 returns-2 c = search-ends (c .before .loop .inv) (omega arith)
 
-pub stored-weight-spec : {M : Type 1} → statement M
-stored-weight-spec =
+pub weight-now-spec : {M : Type 1} → statement M
+weight-now-spec =
     tie.close
-    (tie.spec Inv-loop μ-loop (λ c κs. search needs) loop-holds (λ c. search needs) (λ c. search needs) returns
+    (tie.spec Inv-loop μ-loop (λ c κs. search needs) loop-holds (λ c. search needs) (λ c. search needs) (λ c κs. search needs) returns
     (λ c. search needs) (λ c. search needs) loop-again returns-2)
