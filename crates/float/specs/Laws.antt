@@ -1,6 +1,7 @@
 -- What follows from the definitions, for proofs.
 pub mod Cutting
 pub mod Opened
+pub mod Sums
 pub mod Compare
 pub mod Ordered
 pub mod Whole
