@@ -625,7 +625,7 @@ impl Author {
             self.say_doubles(INSERT, &at(p));
             self.tell_all();
         }
-        // A pair that shares a point; then one of it rests, then both, until the cleanup takes it.
+        // A pair that shares points; one of it rests, then both, with the faster fading until the cleanup takes the link.
         for lambda in [0.25, 1.0 / 1024.0] {
             self.say(OPEN_DB, &[1, bits(1.0), bits(lambda), bits(0.5), bits(1.0)]);
             for p in [0.0, 1.5, 0.75, 0.0, 0.0, 0.75, 2.0, 10.0, 10.0, 10.0, 10.0, 10.0] {
