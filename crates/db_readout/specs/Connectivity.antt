@@ -19,21 +19,32 @@ use Rattle.db_link.specs.Order.{keyOf}
 abbrev pub areLive : List DbMicro → (a b : MicroId) → Bool
 areLive ms a b = isHeld ms a && isHeld ms b && not (eqb (a .0) (b .0))
 
--- the weight of the micro-cluster of a creation number, "faded to the present"
+-- whether it is the micro-cluster of this creation number
+abbrev pub isOf : MicroId → DbMicro → Bool
+isOf id m = eqb (m .id .0) (id .0)
+
+-- its weight, "faded to the present"
+abbrev pub weighs : (lambda t : Float) → DbMicro → Float
+weighs lambda t m = fadedWeight lambda t (m .body)
+
 abbrev pub weightNow : (lambda t : Float) → List DbMicro → MicroId → Float
-weightNow lambda t ms id = firstOf (λ (m : DbMicro). eqb (m .id .0) (id .0)) (λ (m : DbMicro). fadedWeight lambda t (m .body)) nought ms
+weightNow lambda t ms id = firstOf (isOf id) (weighs lambda t) nought ms
 
 -- "(wa + wb)/2": "both weights are faded to the present as the link is"
 abbrev pub meanNow : (lambda t : Float) → List DbMicro → (a b : MicroId) → Float
 meanNow lambda t ms a b = (weightNow lambda t ms a ⊕ weightNow lambda t ms b) ⊘ two
 
--- "faded link / ((wa + wb)/2)", "0 without a link"
-abbrev pub linkOver : (lambda t mean : Float) → List Link → (a b : MicroId) → Float
-linkOver lambda t mean ls a b = firstOf (λ (l : Link). sameEnds l (keyOf a b t)) (λ (l : Link). fadedLink lambda t l ⊘ mean) nought ls
+-- whether it is the link of these ends
+abbrev pub hasEnds : Link → Link → Bool
+hasEnds key l = sameEnds l key
 
--- "A pair whose mean faded weight is 0 reads 0."
+-- "faded link / ((wa + wb)/2)"
+abbrev pub over : (lambda t mean : Float) → Link → Float
+over lambda t mean l = fadedLink lambda t l ⊘ mean
+
+-- "A pair whose mean faded weight is 0 reads 0."; "0 without a link"
 abbrev pub densityOver : (lambda t mean : Float) → List Link → (a b : MicroId) → Float
-densityOver lambda t mean ls a b = cond (eq mean nought) nought (linkOver lambda t mean ls a b)
+densityOver lambda t mean ls a b = cond (eq mean nought) nought (firstOf (hasEnds (keyOf a b t)) (over lambda t mean) nought ls)
 
 -- "Connectivity: are both creation numbers live and different? No: 12."
 unfoldable pub connectivityOf : State → (a b : MicroId) → Said Float

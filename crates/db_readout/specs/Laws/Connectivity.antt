@@ -13,13 +13,12 @@ use Rattle.float.specs.Laws.Sums.{⊕-comm}
 use Rattle.lists.specs.Laws.Maps.{map-first}
 use Rattle.model.specs.declared.micro.MicroId.{MicroId}
 use Rattle.model.specs.declared.micro.DbMicro.{DbMicro}
-use Rattle.model.specs.Body.{fadedWeight}
 use Rattle.model.specs.DbState.{State}
 use Rattle.model.specs.DbInsert.{idOf, isHeld, pairOf}
 use Rattle.db_micro.specs.Held.{cutTo}
 use Rattle.db_link.specs.Among.{isAmong}
 use Rattle.db_link.specs.Laws.Among.{among-held}
-use Rattle.db_readout.specs.Connectivity.{areLive, weightNow, meanNow, connectivityOf}
+use Rattle.db_readout.specs.Connectivity.{areLive, isOf, weighs, weightNow, meanNow, connectivityOf}
 
 -- ---- the micro-clusters of dim coordinates that an array holds
 module _ (dim : ℕ) (ms : List DbMicro) where
@@ -32,7 +31,7 @@ module _ (dim : ℕ) (ms : List DbMicro) where
 
   module _ (lambda t : Float) where
     weight-view : (id : MicroId) → weightNow lambda t ms id ≡ weightNow lambda t (map (cutTo dim) ms) id
-    weight-view id = map-first (cutTo dim) (λ (m : DbMicro). eqb (m .id .0) (id .0)) (λ (m : DbMicro). fadedWeight lambda t (m .body)) nought ms
+    weight-view id = map-first (cutTo dim) (isOf id) (weighs lambda t) nought ms
 
     pub mean-view : (a b : MicroId) → meanNow lambda t ms a b ≡ meanNow lambda t (map (cutTo dim) ms) a b
     mean-view a b = ap₂ (λ (wa wb : Float). (wa ⊕ wb) ⊘ two) (weight-view a) (weight-view b)

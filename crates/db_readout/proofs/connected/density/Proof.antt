@@ -2,7 +2,7 @@
 use Prim.Native.Nat.{_-_}
 use native.Mathlib.Omega.{arith}
 use mathlib.Core.Path.{_≡_, sym, ap, _∙_}
-use mathlib.Core.Bool.{Bool, true, false}
+use mathlib.Core.Bool.{true, false}
 use mathlib.Core.List.{List}
 use borrow.Author.Needs.{needs}
 use lib.Ieee.{Float, eq}
@@ -12,18 +12,11 @@ use Rattle.lists.specs.Search.{firstOf}
 use Rattle.lists.specs.Laws.Counted.{Searched, search-starts, search-finds, search-goes, search-ends}
 use Rattle.model.specs.declared.micro.MicroId.{MicroId}
 use Rattle.model.specs.declared.link.Link.{Link}
-use Rattle.model.specs.DbInsert.{fadedLink, sameEnds}
 use Rattle.model.specs.Limits.{linksMost}
 use Rattle.db_link.specs.Order.{keyOf}
-use Rattle.db_readout.specs.Connectivity.{densityOver}
+use Rattle.db_readout.specs.Connectivity.{hasEnds, over, densityOver}
 use Rattle.db_readout.proofs.connected.density.Statement.{statement}
 use Rattle.db_readout.proofs.connected.density.Tie as tie
-
-abbrev hasEnds : Link → Link → Bool
-hasEnds key l = sameEnds l key
-
-abbrev over : (lambda t mean : Float) → Link → Float
-over lambda t mean l = fadedLink lambda t l ⊘ mean
 
 abbrev Inv-loop : tie.InvT-loop
 Inv-loop count mean lambda t links n key i₀ i = Searched (hasEnds key) (over lambda t mean) nought linksMost count n links i

@@ -3,18 +3,15 @@ use Prim.Native.Nat.{_-_}
 use native.Mathlib.Omega.{arith}
 use borrow.Author.Needs.{needs}
 use borrow.Author.Tests.{eq-eqb, ne-eqb}
-use lib.Dec.{eqb}
 use Rattle.float.specs.Rounded.{nought}
 use Rattle.lists.specs.Laws.Counted.{Searched, search-starts, search-finds, search-goes, search-ends}
-use Rattle.model.specs.declared.micro.DbMicro.{DbMicro}
-use Rattle.model.specs.Body.{fadedWeight}
 use Rattle.model.specs.Limits.{microsMost}
+use Rattle.db_readout.specs.Connectivity.{isOf, weighs}
 use Rattle.db_readout.proofs.connected.weight_now.Statement.{statement}
 use Rattle.db_readout.proofs.connected.weight_now.Tie as tie
 
 abbrev Inv-loop : tie.InvT-loop
-Inv-loop n id lambda t micros k i₀ i =
-    Searched (λ (m : DbMicro). eqb (m .id .0) (id .0)) (λ (m : DbMicro). fadedWeight lambda t (m .body)) nought microsMost n k micros i
+Inv-loop n id lambda t micros k i₀ i = Searched (isOf id) (weighs lambda t) nought microsMost n k micros i
 
 abbrev μ-loop : tie.MeasureT-loop
 μ-loop n id lambda t micros k i₀ i = k - i
