@@ -34,7 +34,13 @@ impl CutTest {
             return false;
         }
         let a = 1.0 / (n0 - self.side + 1.0) + 1.0 / (n1 - self.side + 1.0);
-        let bound = sqrt::sqrt(2.0 * a * self.v * self.g) + 2.0 / 3.0 * a * self.g;
-        apart(t0 / n0, (self.total - t0) / n1) > bound
+        let gap = apart(t0 / n0, (self.total - t0) / n1);
+        let square = 2.0 * a * self.v * self.g;
+        let rest = 2.0 / 3.0 * a * self.g;
+        // Most cuts of a steady stream are told by the square of the gap, and no root is taken.
+        if rest >= 0.0 && gap * gap < square {
+            return false;
+        }
+        gap > sqrt::sqrt(square) + rest
     }
 }

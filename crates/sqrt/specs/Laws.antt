@@ -4,4 +4,5 @@ pub mod Rounding
 pub mod Nearest
 pub mod Values
 pub mod Theorem
+pub mod Squares
 pub mod Examples

@@ -8,7 +8,7 @@ use native.Mathlib.Nat.{le-of-mul-le-mul-right, mul-pos, zero-mul}
 use native.Mathlib.Omega.{arith}
 use mathlib.Core.Bool.{Bool, true, false, not, _&&_, _||_, cond, true≢false}
 use lib.IntN.{ℤ, pos}
-use lib.Dec.{T, ltb, eqb, eqb→eq, ltb→lt, lt→ltb, nltb→le, lit<}
+use lib.Dec.{T, ltb, eqb, eqb→eq, ltb→lt, lt→ltb, nltb→le, lit<, not-T}
 use lib.Ieee.{Float, nan, inf, fin, Format, up, down, round, neg, sum, add, sub, mul, div, lt, le, unlike, level, below, ofBits}
 use lib.Ieee.Fits.{down-pos, up-pos, eq→eqb, and-l, and-r}
 use lib.Ieee.Order.{round-mono}
@@ -216,7 +216,8 @@ zero-round f s c C = round-same f s 0 c 0 1 C (lit< tt) (omega arith) ∙ at f s
     at lib.Ieee.binary32 s = unfold round in refl
     at lib.Ieee.binary64 s = unfold round in refl
 
-minus-plus : (x y : Float) → Plus x → Plus y → T (le (neg x) y)
+-- what has the sign minus is at most what has the sign plus
+pub minus-plus : (x y : Float) → Plus x → Plus y → T (le (neg x) y)
 unfolding le neg
 minus-plus nan y p q = absurd p
 minus-plus (inf true) y p q = absurd (true≢false p)
@@ -444,3 +445,47 @@ pub le-of-not-lt : (x y : Float) → Finite x → Finite y → T (not (lt x y)) 
 le-of-not-lt x y (is-fin s m e) (is-fin t n d) h =
     subst T (sym (le-fin t n d s m e)) (le-in t (n * up d * down e) s (m * up e * down d)
     (no-parts s (m * up e * down d) t (n * up d * down e) (subst (λ (b : Bool). T (not b)) (lt-fin s m e t n d) h)))
+
+none-below : (s : Bool) (a : ℕ) (t : Bool) (b : ℕ) → Le s a t b → T (not (below t b s a))
+none-below false a false b h = not-T (ltb b a) (λ t. let k : b < a = ltb→lt b a t in omega arith)
+none-below false a true b h = not-T (ltb 0 (b + a)) (λ t. let k : 0 < b + a = ltb→lt 0 (b + a) t in omega arith)
+none-below true a false b h = tt
+none-below true a true b h = not-T (ltb a b) (λ t. let k : a < b = ltb→lt a b t in omega arith)
+
+-- of all doubles, what is at least is not below
+pub not-below : (x y : Float) → T (le x y) → T (not (lt y x))
+unfolding le lt
+not-below nan y h = absurd h
+not-below (inf s) nan h = tt
+not-below (inf true) (inf true) h = tt
+not-below (inf true) (inf false) h = tt
+not-below (inf false) (inf true) h = absurd h
+not-below (inf false) (inf false) h = tt
+not-below (inf true) (fin t n d) h = tt
+not-below (inf false) (fin t n d) h = absurd h
+not-below (fin s m e) nan h = tt
+not-below (fin s m e) (inf true) h = absurd h
+not-below (fin s m e) (inf false) h = tt
+not-below (fin s m e) (fin t n d) h = none-below s (m * up e * down d) t (n * up d * down e) (le-out s (m * up e * down d) t (n * up d * down e) h)
+
+-- ---- what is above 0, as a view
+pub data Positive : Float → Type 0 where
+  pos-inf : Positive (inf false)
+  pos-fin : (m : ℕ) (e : ℤ) → Positive (fin false (suc m) e)
+
+-- what is above something with the sign plus is above 0
+pub above-plus : (x y : Float) → Plus x → T (lt x y) → Positive y
+unfolding lt
+above-plus nan y p h = absurd p
+above-plus (inf true) y p h = absurd (true≢false p)
+above-plus (inf false) nan p h = absurd h
+above-plus (inf false) (inf t) p h = absurd h
+above-plus (inf false) (fin t n d) p h = absurd h
+above-plus (fin true m e) y p h = absurd (true≢false p)
+above-plus (fin false m e) nan p h = absurd h
+above-plus (fin false m e) (inf true) p h = absurd h
+above-plus (fin false m e) (inf false) p h = pos-inf
+above-plus (fin false m e) (fin true n d) p h = absurd h
+above-plus (fin false m e) (fin false zero d) p h =
+    absurd (let k : m * up e * down d < 0 * up d * down e = ltb→lt (m * up e * down d) (0 * up d * down e) h in omega arith)
+above-plus (fin false m e) (fin false (suc n) d) p h = pos-fin n d

@@ -2,20 +2,19 @@
 -- for x = m * 2 ^ (k - 1074), a positive number of binary64, its result is the number of 53 binary digits that is nearest to x's root. Assumes nothing.
 use mathlib.Core.Path.{_≡_, refl, sym, ap, _∙_, subst}
 use Prim.Native.Nat.{ℕ, suc, _+_, _-_, _*_, _/_, _%_, _^_, _≤_, _<_}
-use native.Mathlib.Nat.{le-trans, le-of-eq, lt-of-lt-of-le, lt-of-le-of-lt, lt-of-not-le, le-of-suc-le-suc, mul-comm, mul-left-comm, mul-assoc}
-use native.Mathlib.Nat.{mul-one, mul-suc, suc-mul, mul-pos, mul-le-mul, mul-le-mul-right, mul-lt-mul-of-pos-right, zero-lt-suc, eq-or-lt-of-le}
-use native.Mathlib.Nat.{lt-irrefl}
+use native.Mathlib.Nat.{le-trans, le-of-eq, lt-of-lt-of-le, lt-of-le-of-lt, lt-of-not-le, not-le-of-lt, le-of-suc-le-suc, mul-left-comm, mul-assoc}
+use native.Mathlib.Nat.{mul-suc, suc-mul, mul-pos, mul-le-mul, mul-le-mul-right, mul-lt-mul-of-pos-right, zero-lt-suc, eq-or-lt-of-le}
 use mathlib.Core.Logic.{inl, inr}
 use native.Mathlib.Omega.{arith}
-use mathlib.Core.Bool.{false, _&&_}
-use lib.IntN.{ℤ, pos, negsuc}
-use lib.Dec.{T, leb, ltb, eqb, leb→le, ltb→lt, lit<}
-use lib.Ieee.Fits.{and-l, and-r}
-use lib.Pow.{pow-add, pow-pos, pow-mono, pow-lt, shl-lt}
+use mathlib.Core.Bool.{false}
+use lib.IntN.{ℤ}
+use lib.Dec.{T}
+use lib.Pow.{pow-add, pow-pos, pow-mono, shl-lt}
 use lib.Arith.{lt-of-le-ne}
-use lib.Ieee.{Float, fin, binary64, up, down, fits, size}
+use lib.Ieee.{Float, fin, binary64, fits, size}
 use lib.Ieee.Digits.{size-lt, size-le, size-reaches}
 use lib.Ieee.Exact.{HasValue}
+use Rattle.float.specs.Laws.Units.{in-units}
 use Rattle.sqrt.specs.Root.{floorRoot, sqrtOf}
 use Rattle.sqrt.specs.Laws.Floor.{root-within, floor-root}
 use Rattle.sqrt.specs.Inside.Digits.{Rooted}
@@ -60,7 +59,7 @@ module _ (m : ℕ) (some : 0 < m) (few : m < 2 ^ 54) where
       )
 
   -- m has a root of 54 digits
-  pub has-root : Rooted m (floorRoot (m * 4 ^ (rounds - 27))) rounds
+  has-root : Rooted m (floorRoot (m * 4 ^ (rounds - 27))) rounds
   has-root =
       let n = m * 4 ^ (rounds - 27) in
       let q = floorRoot n in
@@ -76,7 +75,7 @@ square-lt x y h = lt-of-lt-of-le {n = x * x} {m = suc x * suc x} (more x) (mul-l
     more x = simp (mul-suc, suc-mul) (omega arith)
 
 -- the root of a positive double is rounded to the nearest
-pub sqrt-nearest : (x : Float) (m k : ℕ) → 0 < m → m < 2 ^ 53 → k ≤ 2097 → HasValue x false (m * 2 ^ k) (2 ^ 1074) → NearestRoot (m * 2 ^ k) (sqrtOf x)
+sqrt-nearest : (x : Float) (m k : ℕ) → 0 < m → m < 2 ^ 53 → k ≤ 2097 → HasValue x false (m * 2 ^ k) (2 ^ 1074) → NearestRoot (m * 2 ^ k) (sqrtOf x)
 sqrt-nearest x m k some few low v = record {
   r = R;
   g = G;
@@ -153,48 +152,12 @@ sqrt-nearest x m k some few low v = record {
 
 -- ---- the same for every positive number of the format
 
--- the powers of two grow, so an exponent can be read off
-pow-lt-back : (i j : ℕ) → 2 ^ i < 2 ^ j → i < j
-pow-lt-back i j h = lt-of-not-le (λ (g : j ≤ i). lt-irrefl (2 ^ i) (lt-of-lt-of-le h (pow-mono g)))
-
--- e is k - 1074 for a k up to 2097
-place : (m : ℕ) (e : ℤ) → down e ≤ 2 ^ 1074 → suc m * up e < 2 ^ 1024 * down e → (k : ℕ) × (k ≤ 2097) × (suc m * up e * 2 ^ 1074 ≡ suc m * 2 ^ k * down e)
-place m (pos x) lo hi =
-    (x + 1074, high, mul-assoc (suc m) (2 ^ x) (2 ^ 1074) ∙ ap (λ (y : ℕ). suc m * y) (sym (pow-add 2 x 1074)) ∙ sym (mul-one (suc m * 2 ^ (x + 1074))))
-  where
-    x-lt : x < 1024
-    x-lt = pow-lt-back x 1024 (lt-of-le-of-lt (le-trans (le-of-eq (sym (mul-comm 1 (2 ^ x) ∙ mul-one (2 ^ x)))) (mul-le-mul-right (2 ^ x) (zero-lt-suc m))) hi)
-
-    high : x + 1074 ≤ 2097
-    high = omega (arith, x-lt)
-place m (negsuc x) lo hi = (
-  1074 - suc x,
-  high,
-  ap (λ (y : ℕ). y * 2 ^ 1074) (mul-one (suc m))
-      ∙ ap (λ (y : ℕ). suc m * y) (ap (λ (y : ℕ). 2 ^ y) parts ∙ pow-add 2 (1074 - suc x) (suc x)) ∙ sym (mul-assoc (suc m) (2 ^ (1074 - suc x)) (2 ^ suc x)),
-)
-  where
-    x-le : suc x ≤ 1074
-    x-le = le-of-suc-le-suc (pow-lt-back (suc x) 1075 (lt-of-le-of-lt lo (pow-lt {i = 1074} {j = 1075} (lit< tt))))
-
-    high : 1074 - suc x ≤ 2097
-    high = omega arith
-
-    parts : 1074 ≡ 1074 - suc x + suc x
-    parts = omega (arith, x-le)
-
 -- x is n * 2 ^ -1074 for a whole n, and `sqrtOf x` is the nearest to its root
 pub sqrt-is-nearest :
     (m : ℕ) (e : ℤ) → T (fits binary64 (fin false (suc m) e)) →
     (n : ℕ) × HasValue (fin false (suc m) e) false n (2 ^ 1074) × NearestRoot n (sqrtOf (fin false (suc m) e))
-unfolding fits
 sqrt-is-nearest m e f =
-    let A = eqb (suc m % 2) 1 in
-    let B = ltb (suc m) (2 ^ 53) in
-    let D = leb (down e) (2 ^ 1074) in
-    let E = ltb (suc m * up e) (2 ^ 1024 * down e) in
-    let few : suc m < 2 ^ 53 = ltb→lt (suc m) (2 ^ 53) (and-r A B (and-l (A && B) D (and-l (A && B && D) E f))) in
-    let p =
-    place m e (leb→le (down e) (2 ^ 1074) (and-r (A && B) D (and-l (A && B && D) E f))) (ltb→lt (suc m * up e) (2 ^ 1024 * down e) (and-r (A && B && D) E f)) in
-    let v : HasValue (fin false (suc m) e) false (suc m * 2 ^ (p .0)) (2 ^ 1074) = (refl, p .2) in
-    (suc m * 2 ^ (p .0), v, sqrt-nearest (fin false (suc m) e) (suc m) (p .0) (zero-lt-suc m) few (p .1) v)
+    let u = in-units m e f in
+    let k = u .power in
+    let low : k ≤ 2097 = le-of-suc-le-suc (lt-of-not-le (λ (h : 2098 ≤ k). not-le-of-lt (u .room) (mul-le-mul (zero-lt-suc m) (pow-mono h)))) in
+    (suc m * 2 ^ k, (refl, u .is), sqrt-nearest (fin false (suc m) e) (suc m) k (zero-lt-suc m) (u .few) low (refl, u .is))
