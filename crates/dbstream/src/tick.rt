@@ -13,8 +13,8 @@ impl DbStream {
         ensures { λ r. ⌜ view r ≡ tickOf (view self) near ⌝ }
     {
         let drift = self.drift;
-        let clock = Clock::at(self.t, self.params.t_gap, drift);
-        let ticked = clock.tick(near);
+        let clock = Clock::at(self.t, self.params.t_gap);
+        let ticked = clock.tick(drift, near);
         let t = ticked.t;
         let seen = ticked.drift;
         if ticked.due {

@@ -13,8 +13,8 @@ impl DenStream {
         ensures { λ r. ⌜ view r ≡ tickOf (view self) near ⌝ }
     {
         let drift = self.drift;
-        let clock = Clock::at(self.t, self.params.tp, drift);
-        let ticked = clock.tick(near);
+        let clock = Clock::at(self.t, self.params.tp);
+        let ticked = clock.tick(drift, near);
         let t = ticked.t;
         let seen = ticked.drift;
         if ticked.due {

@@ -17,5 +17,5 @@ pub record Tick : Type 0 where
 abbrev pub tickTold : Ticked → Tick
 tickTold r = record { t = r .t; drift = view (r .drift); due = r .due }
 
-abbrev pub tickedOf : Clock → Nearest → Tick
-tickedOf c near = record { t = c .t ⊕ one; drift = observeOf (view (c .drift)) near (c .t); due = isMultiple (c .t ⊕ one) (c .period) }
+abbrev pub tickedOf : Clock → Monitor → Nearest → Tick
+tickedOf c monitor near = record { t = c .t ⊕ one; drift = observeOf monitor near (c .t); due = isMultiple (c .t ⊕ one) (c .period) }

@@ -1,7 +1,8 @@
-// The clock of both streams, and the drift monitor that is told the time.
+// The clock of both streams, which tells the drift monitor the time.
 use drift::DriftMonitor;
 use drift::Nearest;
 ghost use mathlib.Core.Path.{_≡_};
+ghost use Rattle.drift.specs.Monitor.{view};
 ghost use Rattle.model.specs.Fading.{isMultiple, ticksOf};
 ghost use Rattle.model.specs.Ticking.{tickTold, tickedOf};
 
@@ -28,11 +29,10 @@ fn is_multiple(t: f64, period: f64) -> bool
     ticks(t) % p == 0
 }
 
-// The tick, the ticks between two prunings, and the monitor.
+// The tick, and the ticks between two prunings. The monitor is no part of it: it would be copied in and out.
 pub struct Clock {
     pub t: f64,
     pub period: f64,
-    pub drift: DriftMonitor,
 }
 
 // The time and the monitor after a tick, and whether a pruning is due.
@@ -43,18 +43,17 @@ pub struct Ticked {
 }
 
 impl Clock {
-    // A stream's clock: its tick, its period and its monitor.
-    pub fn at(t: f64, period: f64, drift: DriftMonitor) -> Clock
-        ensures { λ r. ⌜ r ≡ record { t = t; period = period; drift = drift } ⌝ }
+    // A stream's clock: its tick and its period.
+    pub fn at(t: f64, period: f64) -> Clock
+        ensures { λ r. ⌜ r ≡ record { t = t; period = period } ⌝ }
     {
-        Clock { t, period, drift }
+        Clock { t, period }
     }
 
     // The drift monitor, then t grows by 1; pruning is due where t is a multiple of the period.
-    pub fn tick(self, near: Nearest) -> Ticked
-        ensures { λ r. ⌜ tickTold r ≡ tickedOf self near ⌝ }
+    pub fn tick(self, monitor: DriftMonitor, near: Nearest) -> Ticked
+        ensures { λ r. ⌜ tickTold r ≡ tickedOf self (view monitor) near ⌝ }
     {
-        let monitor = self.drift;
         let drift = monitor.observe(near, self.t);
         let t = self.t + 1.0;
         let due = is_multiple(t, self.period);
