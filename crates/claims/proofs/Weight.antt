@@ -1,21 +1,19 @@
 -- A weight that fades is at least 0 and at most what it was; one that fades and gains 1 is from 1 to the number of its gains. Assumes nothing.
-use Prim.Native.Nat.{ℕ, zero, suc, _+_, _-_, _*_, _%_, _^_, _≤_, _<_}
-use mathlib.Core.Path.{_≡_, refl, sym, ap, _∙_, subst}
-use mathlib.Core.Bool.{Bool, true, false, _&&_}
-use native.Mathlib.Nat.{add-comm, mul-comm, mul-one, mul-assoc, one-mul, not-le-of-lt}
-use native.Mathlib.Decide.{decLe}
-use mathlib.Core.Logic.{by-cases}
-use lib.Pow.{pow-add, pow-pos, pow-lt, shl-lt}
+use Prim.Native.Nat.{ℕ, zero, suc, _*_, _^_, _≤_}
+use mathlib.Core.Path.{_≡_, refl, sym, ap, _∙_}
+use mathlib.Core.Bool.{Bool, true, false}
+use native.Mathlib.Nat.{mul-comm, mul-one, one-mul}
 use native.Mathlib.Omega.{arith}
-use lib.Dec.{T, eqb, ltb, leb, ltb→lt, leb→le}
-use lib.IntN.{ℤ, pos, negsuc}
-use lib.Ieee.{Float, nan, inf, fin, Format, binary64, prec, emax, low, up, down, round, fits, mul, le, unlike, ofBits}
+use lib.Dec.{T}
+use lib.IntN.{pos}
+use lib.Ieee.{Float, nan, inf, fin, Format, binary64, low, up, down, fits, mul, le, unlike, ofBits}
 use lib.Ieee.Fits.{down-pos}
-use lib.Ieee.Exact.{HasValue, round-exact}
+use lib.Ieee.Exact.{HasValue}
 use lib.Ieee.Order.{le-of-values}
 use Rattle.float.specs.Rounded.{_⊗_, nought, one, whole, Is}
 use Rattle.float.specs.Laws.Opened.{mul-fin}
 use Rattle.float.specs.Laws.Whole.{whole-is, mul-is}
+use Rattle.float.specs.Laws.Units.{own-round}
 use Rattle.float.specs.Laws.Ordered.{Finite, is-fin, le→parts, le-trans-all, mul-mono, zero-round, zero-le-zero}
 
 -- what lies between finite doubles is finite
@@ -76,52 +74,14 @@ faded w g n N a b c d =
     let e : one ⊗ whole n ≡ whole n = mul-is one (whole n) 1 n (refl, refl) (whole-is n N) ∙ ap whole (one-mul n) in
     (low, le-trans-all (w ⊗ g) (whole n ⊗ g) (whole n) up1 (rw e at up2))
 
--- ---- a double times 1 has its own value
-power-back : (i j : ℕ) → 2 ^ i ≤ 2 ^ j → i ≤ j
-power-back i j h = by-cases (decLe i j) (λ l. l) (λ l. absurd (not-le-of-lt (pow-lt (let k : j < i = omega arith in k)) h))
-
-parts : (a b c d : Bool) → T (a && b && c && d) → T b × T c × T d
-parts true true true true t = (tt, tt, tt)
-parts true true true false t = absurd t
-parts true true false d t = absurd t
-parts true false c d t = absurd t
-parts false b c d t = absurd t
-
-same-value : (f : Format) (s : Bool) (m : ℕ) (e : ℤ) → T (fits f (fin s (suc m) e)) → HasValue (round f s (suc m * up e) (down e)) s (suc m * up e) (down e)
-unfolding fits
-same-value f s m (pos k) t =
-    let p = parts (eqb (suc m % 2) 1) (ltb (suc m) (2 ^ prec f)) (leb 1 (2 ^ low f)) (ltb (suc m * 2 ^ k) (2 ^ suc (emax f) * 1)) t in
-    let few : suc m < 2 ^ prec f = ltb→lt (suc m) (2 ^ prec f) (p .0) in
-    let bound : suc m * 2 ^ k < 2 ^ suc (emax f) * 1 = ltb→lt (suc m * 2 ^ k) (2 ^ suc (emax f) * 1) (p .2) in
-    let fine : suc m * 2 ^ k < 2 ^ suc (emax f) = subst (λ (x : ℕ). suc m * 2 ^ k < x) (mul-one (2 ^ suc (emax f))) bound in
-    let shifted : suc m * 2 ^ k * 2 ^ low f < 2 ^ (low f + suc (emax f)) =
-    subst (λ (x : ℕ). suc m * 2 ^ k * 2 ^ low f < 2 ^ x) (add-comm (suc (emax f)) (low f)) (shl-lt (suc (emax f)) (low f) fine) in
-    let e : suc m * 2 ^ k * 2 ^ low f ≡ suc m * 2 ^ (k + low f) =
-    mul-assoc (suc m) (2 ^ k) (2 ^ low f) ∙ ap (λ (x : ℕ). suc m * x) (sym (pow-add 2 k (low f))) in
-    round-exact f s (suc m * 2 ^ k) 1 (suc m) (k + low f) (omega arith) few
-    (subst (λ (x : ℕ). x < 2 ^ (low f + suc (emax f))) e shifted) (e ∙ sym (mul-one (suc m * 2 ^ (k + low f))))
-same-value f s m (negsuc k) t =
-    let p = parts (eqb (suc m % 2) 1) (ltb (suc m) (2 ^ prec f)) (leb (2 ^ suc k) (2 ^ low f)) (ltb (suc m * 1) (2 ^ suc (emax f) * 2 ^ suc k)) t in
-    let few : suc m < 2 ^ prec f = ltb→lt (suc m) (2 ^ prec f) (p .0) in
-    let deep : suc k ≤ low f = power-back (suc k) (low f) (leb→le (2 ^ suc k) (2 ^ low f) (p .1)) in
-    let fine : suc m * 1 < 2 ^ suc (emax f) * 2 ^ suc k = ltb→lt (suc m * 1) (2 ^ suc (emax f) * 2 ^ suc k) (p .2) in
-    let j : ℕ = low f - suc k in
-    let b : j + suc k ≡ low f = omega arith in
-    let wide : suc m * 1 < 2 ^ (suc (emax f) + suc k) = subst (λ (x : ℕ). suc m * 1 < x) (sym (pow-add 2 (suc (emax f)) (suc k))) fine in
-    let g : suc m < 2 ^ (suc (emax f) + suc k) = subst (λ (x : ℕ). x < 2 ^ (suc (emax f) + suc k)) (mul-one (suc m)) wide in
-    let q : (suc (emax f) + suc k) + j ≡ low f + suc (emax f) = omega arith in
-    round-exact f s (suc m * 1) (2 ^ suc k) (suc m) j (pow-pos (suc k)) few
-    (subst (λ (x : ℕ). suc m * 2 ^ j < 2 ^ x) q (shl-lt (suc (emax f) + suc k) j g))
-    (ap (λ (x : ℕ). x * 2 ^ low f) (mul-one (suc m)) ∙ ap (λ (x : ℕ). suc m * 2 ^ x) (sym b)
-    ∙ ap (λ (x : ℕ). suc m * x) (pow-add 2 j (suc k)) ∙ sym (mul-assoc (suc m) (2 ^ j) (2 ^ suc k)))
-
+-- ---- a double times 1 is rounded to itself
 times-one : (w : Float) → T (fits binary64 w) → Finite w → T (le one w) → T (le (w ⊗ one) w)
 unfolding ofBits fits
 times-one (fin true m e) f (is-fin s n d) a = absurd (let h = le→parts false 1 (pos 0) true m e a in omega (arith, down-pos e))
 times-one (fin false zero e) f (is-fin s n d) a = absurd (let h = le→parts false 1 (pos 0) false 0 e a in omega (arith, down-pos e))
 times-one (fin false (suc m) e) f (is-fin s n d) a =
     let v : HasValue (fin false (suc m) e ⊗ one) false (suc m * up e) (down e) =
-    rw (mul-fin binary64 false (suc m) e false 1 (pos 0), mul-one (suc m * up e), mul-one (down e)) (same-value binary64 false m e f) in
+    rw (mul-fin binary64 false (suc m) e false 1 (pos 0), mul-one (suc m * up e), mul-one (down e)) (own-round (suc m) e f) in
     le-of-values (fin false (suc m) e ⊗ one) (fin false (suc m) e) (suc m * up e) (down e) (suc m * up e) (down e) (down-pos e) (down-pos e)
     v (refl, refl) (omega arith)
 

@@ -66,7 +66,7 @@ halves-exact {m} {e} u t h =
     (u .is ∙ ap (λ (n : ℕ). m * n * down e) parts ∙ simp (mul-assoc, mul-comm, mul-left-comm))
 
 -- a double is its own rounding
-own-round : (m : ℕ) (e : ℤ) → T (fits binary64 (fin false m e)) → HasValue (round binary64 false (m * up e) (down e)) false (m * up e) (down e)
+pub own-round : (m : ℕ) (e : ℤ) → T (fits binary64 (fin false m e)) → HasValue (round binary64 false (m * up e) (down e)) false (m * up e) (down e)
 own-round zero e f = round-exact binary64 false (0 * up e) (down e) 0 0 (down-pos e) (lit< tt) (lit< tt) (simp zero-mul)
 own-round (suc m) e f =
     let u = in-units m e f in round-exact binary64 false (suc m * up e) (down e) (suc m) (u .power) (down-pos e) (u .few) (u .room) (u .is)
