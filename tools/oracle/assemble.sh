@@ -36,4 +36,4 @@ for f in $FILES; do cmp -s $RUST.new/$f.rs $RUST/$f.rs || cp $RUST.new/$f.rs $RU
 rm -r $RUST.new
 
 CARGO_TARGET_DIR=$PWD/target/oracle/build cargo build --quiet --release --offline --manifest-path tools/oracle/Cargo.toml ${ORACLE_FEATURES:+--features "$ORACLE_FEATURES"}
-echo "built: target/oracle/build/release/{oracle,scripts,compare,vectors,bench}"
+echo "built: target/oracle/build/release/{oracle,scripts,compare,vectors,limits,bench}"

@@ -12,7 +12,7 @@ pub record Classed : Type 0 where
   pub class : ℕ
   pub bucket : Bucket
 
--- Class numbers end at 255: no window that started empty has a class above 15 (`classes` of `Told`).
+-- Class numbers end at 255: no window that started empty comes near it (`classes` of `Told`).
 abbrev pub nextClass : ℕ → ℕ
 nextClass c = min (c + 1) 255
 

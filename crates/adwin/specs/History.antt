@@ -6,10 +6,10 @@ use mathlib.Core.List.{List, [], _∷_, _++_}
 use lib.Dec.{eqb}
 use lib.Ieee.{Float}
 use lib.ListN.{length}
-use Rattle.float.specs.Rounded.{whole}
+use Rattle.float.specs.Rounded.{Exact}
 use Rattle.float.specs.Order.{isFinite}
 use Rattle.adwin.specs.Buckets.{Classed}
-use Rattle.adwin.specs.Settings.{cap, limit, places}
+use Rattle.adwin.specs.Settings.{cap, limit, classMost, places}
 use Rattle.adwin.specs.Cut.{searchOf}
 use Rattle.adwin.specs.Window.{Window, hasRoom, due, grown, updateOf, newOf, widthOf}
 
@@ -43,7 +43,7 @@ valuesIn (b ∷ l) = 2 ^ b .class + valuesIn l
 -- each size is 2^class, exactly
 abbrev pub Sized : List Classed → Type 0
 Sized [] = Unit {0}
-Sized (b ∷ l) = (b .bucket .size ≡ whole (2 ^ b .class)) × Sized l
+Sized (b ∷ l) = Exact (2 ^ b .class) (b .bucket .size) × Sized l
 
 -- how many buckets have the class c
 abbrev pub countOf : ℕ → List Classed → ℕ
@@ -62,16 +62,16 @@ NeverRising (b ∷ l) = Below (b .class) l × NeverRising l
 
 -- the window w after the values xs
 pub record Told (delta : Float) (xs : List Float) (w : Window) : Type 0 where
-  -- every finite value is taken, up to 65,535
+  -- every finite value is taken, up to the limit
   pub taken : w .taken ≡ min (finiteIn xs) limit
   -- each size is 2^class, exactly, and they sum to the width
   pub sized : Sized (w .held)
-  pub sums : w .sums .width ≡ whole (valuesIn (w .held))
+  pub sums : Exact (valuesIn (w .held)) (w .sums .width)
   -- "Over 6 in a class, the two oldest merge into the newest of the next."
   pub neverRising : NeverRising (w .held)
   pub atMostSix : (c : ℕ) → countOf c (w .held) ≤ cap
-  -- no class is above 15
-  pub classes : Below 15 (w .held)
+  -- no class is above the highest that the values can make
+  pub classes : Below classMost (w .held)
   -- the places for buckets are never full
   pub neverFull : length (w .held) < places
   -- "The width equals values taken less the sizes dropped."

@@ -34,7 +34,7 @@ quiet w = record { alarm = false; refusal = 0; window = w }
 abbrev pub full : Window → Outcome
 full w = record { alarm = false; refusal = 8; window = w }
 
--- "`Adwin` update: .. have fewer than 65,535 finite values been taken? No: 8."
+-- "`Adwin` update: .. have fewer than 65,535 finite values been taken? No: 8."; by document 02, item 5, fewer than 2^40 − 1
 -- Nor do full places take one, but no window that started empty fills them (`neverFull` of `Told`).
 abbrev pub hasRoom : Window → Bool
 hasRoom w = ltb (w .taken) limit && ltb (length (w .held)) places

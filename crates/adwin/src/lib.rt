@@ -30,7 +30,7 @@ pub struct Adwin {
     pub taken: u64,
 }
 
-// The answer to an update: no change seen, a change seen, or the value refused because 65,535 were taken.
+// The answer to an update: no change seen, a change seen, or the value refused because `LIMIT` were taken.
 pub enum Verdict {
     Quiet,
     Alarm,
@@ -122,8 +122,8 @@ impl Adwin {
     pub const SIDE: f64 = 5.0;
     // Values from one cut search to the next.
     pub const INTERVAL: u64 = 32;
-    // The most values that a window takes.
-    pub const LIMIT: u64 = 65535;
+    // The most values that a window takes: 2 to the power 40, less 1.
+    pub const LIMIT: u64 = 1099511627775;
 
     // An empty window; delta is the rate of false alarms.
     pub fn new(delta: f64) -> Self

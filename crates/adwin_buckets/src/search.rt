@@ -8,8 +8,8 @@ ghost use Rattle.adwin_buckets.specs.Inside.Search.{pastBucket, searchFr
 use crate::bucket::Bucket;
 use crate::cut::CutTest;
 
-// Places for buckets. 65,535 values fill at most 80, with 6 in each class; one more is for the newest.
-pub const PLACES: usize = 81;
+// Places for buckets. 2^40 - 1 values fill at most 224, with 6 in each class; one more is for the newest.
+pub const PLACES: usize = 225;
 
 // A search under way: the buckets before `at` have n0 values with the sum t0, `left` are still to be
 // searched, and `fails` says whether a cut failed.

@@ -1,8 +1,7 @@
 -- What is kept of each micro-cluster, through every insert of a DenStream.
-use Prim.Native.Nat.{ℕ, _+_, _<_, _≤_}
+use Prim.Native.Nat.{ℕ, _+_, _≤_}
 use mathlib.Core.Path.{sym, subst}
 use mathlib.Core.List.{List, [], _∷_}
-use native.Mathlib.Omega.{arith}
 use lib.Ieee.{Float}
 use Rattle.float.specs.Rounded.{_⊕_, one}
 use Rattle.model.specs.declared.micro.DenMicro.{DenMicro}
@@ -19,6 +18,7 @@ use Rattle.claims.specs.Clock.{Counts}
 use Rattle.claims.specs.DenClaims.{Kept, Figures, after, told}
 use Rattle.claims.proofs.Places.{at-in, each-in}
 use Rattle.claims.proofs.Order.{each-more, each-append, each-set, each-without, each-retain}
+use Rattle.claims.proofs.Clocks.{dated, dated-later}
 use Rattle.claims.proofs.Runs.{always}
 use Rattle.claims.proofs.Bodies.{body-later, body-absorbing, body-birth}
 use Rattle.claims.proofs.DenTrials.{Tried}
@@ -27,25 +27,15 @@ use Rattle.claims.proofs.DenCases.{placed-cases}
 -- ---- one micro-cluster
 kept-later : (n dim : ℕ) (m : DenMicro) → n ≤ clockMost → Kept n dim m → Kept (n + 1) dim m
 kept-later n dim m h k =
-    record { body = body-later n dim (m .body) h (k .body); birth = k .birth; before = (let b : k .birth < n = k .before in omega arith); born = k .born }
+    record { body = body-later n dim (m .body) h (k .body); born = dated-later n (m .t0) (k .born) }
 
 kept-absorbs : (n dim : ℕ) (lambda t : Float) (x : List Float) (m : DenMicro) → Counts n t → Kept n dim m → Kept (n + 1) dim (absorbs lambda t x m)
 kept-absorbs n dim lambda t x m c k =
-    record {
-      body = body-absorbing n dim t x c lambda (m .body) (k .body);
-      birth = k .birth;
-      before = (let b : k .birth < n = k .before in omega arith);
-      born = k .born;
-    }
+    record { body = body-absorbing n dim t x c lambda (m .body) (k .body); born = dated-later n (m .t0) (k .born) }
 
 kept-newborn : (n dim : ℕ) (t : Float) (x : List Float) → Counts n t → Kept (n + 1) dim (newborn dim t x)
 kept-newborn n dim t x c =
-    record {
-      body = body-birth n dim t x c;
-      birth = n;
-      before = omega arith;
-      born = c .exact;
-    }
+    record { body = body-birth n dim t x c; born = dated n t c }
 
 -- ---- a point taken
 abbrev Both : (n dim : ℕ) → Holdings → Type 0

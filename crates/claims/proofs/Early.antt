@@ -14,6 +14,7 @@ use Rattle.drift.specs.declared.Nearest.{Nearest}
 use Rattle.drift.specs.declared.Nearest.the-variants.{Nothing, Distance}
 use Rattle.drift.specs.Monitor.{Monitor, observeOf}
 use Rattle.model.specs.Limits.{clockMost}
+use Rattle.model.specs.Laws.Limits.{limits-agree}
 use Rattle.model.specs.Run.{acceptedIn}
 use Rattle.model.specs.Stream.{State, Kind, taking, fresh, takenOf}
 use Rattle.model.specs.Laws.Stream.{tick-drift}
@@ -62,5 +63,5 @@ module _ {S P H : Type 0} (k : Kind S P H) (place : State P H → List Float →
     pub window-takes : (v : Float) → updateOf (after k place p xs .drift .window) v .refusal ≡ 0
     window-takes v =
         let h : acceptedIn (told k place p xs) ≤ clockMost = clock-counts k place p xs .limit in
-        not-refused (after k place p xs .drift .window) v (⊎-elim (λ f. omega arith) (λ f. omega (arith, f .0)) early-told)
+        not-refused (after k place p xs .drift .window) v (⊎-elim (λ f. omega (arith, limits-agree .window)) (λ f. omega (arith, f .0)) early-told)
         (drift-heard k place p xs .told .neverFull)

@@ -1,12 +1,12 @@
 -- The period of a stream that opens is whole, and so a multiple of it is what the remainder of doubles says.
-use Prim.Native.Nat.{ℕ, _^_, _≤_}
-use mathlib.Core.Path.{_≡_, refl, sym, ap, subst}
+use Prim.Native.Nat.{ℕ, _+_, _-_, _^_, _≤_}
+use mathlib.Core.Path.{_≡_, refl, ap}
 use mathlib.Core.Bool.{true, false}
 use native.Mathlib.Omega.{arith}
 use lib.Ieee.{Float, binary64, neg, lt, eq, rem}
-use Rattle.float.specs.Rounded.{_⊖_, _⊗_, nought, one, whole}
+use Rattle.float.specs.Rounded.{_⊕_, _⊖_, _⊗_, nought, one, whole, Exact}
 use Rattle.float.specs.TwoTo.{twoTo}
-use Rattle.float.specs.Laws.Whole.{whole-is}
+use Rattle.float.specs.Laws.Whole.{add-is, exactly}
 use Rattle.model.specs.declared.answers.Opening.the-variants.{Open}
 use Rattle.model.specs.Limits.{clockMost}
 use Rattle.model.specs.Answers.{isOpen}
@@ -22,7 +22,7 @@ use Rattle.model.specs.DbState as db
 use Rattle.model.specs.Dbstream.{dbstream}
 use Rattle.model.specs.DenState as den
 use Rattle.model.specs.Denstream.{denstream}
-use Rattle.claims.specs.Clock.{Counts}
+use Rattle.claims.specs.Clock.{Counts, Dated}
 
 -- an accepted opening answered yes to every question: of DBSTREAM, the third
 db-lambda : (p : db.Settings) → asked dbstream p ≡ Open → lambdaInRange (p .lambda) ≡ true
@@ -57,5 +57,16 @@ pub due-is :
 due-is {b} {period} B g n t c =
     let h : n ≤ clockMost = c .limit in
     let l : g .ticks ≤ b = g .most in
-    subst (λ (u : Float). isMultiple u period ≡ eq (rem binary64 u period) nought) (sym (c .exact))
-    (multiple-of-doubles (whole n) period n (g .ticks) (omega arith) (g .some) (omega arith) (whole-is n (omega arith)) (g .is))
+    multiple-of-doubles t period n (g .ticks) (omega arith) (g .some) (omega arith) (c .exact .value) (g .is)
+
+-- the time that an outlier's need goes by is a sum of whole doubles
+pub need-exact :
+    {tp : Float} (period : Period (2 ^ 38) tp) (n : ℕ) (t0 : Float) (born : Dated n t0) (m : ℕ) →
+    n ≤ m →
+    m ≤ clockMost →
+    Exact (m - born .tick + period .ticks) (whole m ⊖ t0 ⊕ tp)
+need-exact {tp} period n t0 born m h l =
+    let b : period .ticks ≤ 2 ^ 38 = period .most in
+    let age : Exact (m - born .tick) (whole m ⊖ t0) = born .age m h l in
+    exactly (m - born .tick + period .ticks) (whole m ⊖ t0 ⊕ tp) (add-is (whole m ⊖ t0) tp (m - born .tick) (period .ticks) (age .value) (period .is))
+    (omega arith)

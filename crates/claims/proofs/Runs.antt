@@ -6,7 +6,12 @@ use mathlib.Core.List.{List, [], _∷_, _++_}
 use native.Mathlib.Omega.{arith}
 use lib.Ieee.{Float}
 use Rattle.float.specs.Rounded.{whole}
-use Rattle.drift.specs.Monitor.{newOf, observeOf}
+use Rattle.drift.specs.declared.Nearest.{Nearest}
+use Rattle.drift.specs.declared.Nearest.the-variants.{Nothing, Distance}
+use Rattle.drift.specs.declared.LastAlarm.{LastAlarm}
+use Rattle.drift.specs.declared.LastAlarm.the-variants.{Never, At}
+use Rattle.adwin.specs.Window.{updateOf}
+use Rattle.drift.specs.Monitor.{Monitor, newOf, heard, observeOf}
 use Rattle.drift.specs.History.{Seen, watchOf, Heard}
 use Rattle.drift.specs.Laws.History.{heard-from-history}
 use Rattle.model.specs.declared.answers.Opening.{Opening}
@@ -15,11 +20,11 @@ use Rattle.model.specs.Answers.{isDone}
 use Rattle.model.specs.Outcome.{Outcome, opened}
 use Rattle.model.specs.Run.{runOf, answersOf, oneIfDone, acceptedIn}
 use Rattle.model.specs.Stream.{State, Kind, taking, fresh, openOf, tickOf, takenOf, insertBy}
-use Rattle.model.specs.Laws.Stream.{tick-params, insert-cases}
+use Rattle.model.specs.Laws.Stream.{tick-params, tick-drift, insert-cases}
 use Rattle.claims.specs.Clock.{Counts}
-use Rattle.claims.specs.History.{seenIf, seenFrom}
+use Rattle.claims.specs.History.{seenIf, seenFrom, Rang}
 use Rattle.claims.specs.Whole.{Opens, after, told, seen}
-use Rattle.claims.proofs.Clocks.{one-tick, starts}
+use Rattle.claims.proofs.Clocks.{one-tick, starts, dated, dated-later}
 
 -- a list of inserts, then another
 pub run-append :
@@ -32,6 +37,22 @@ run-append insert (x ∷ xs) ys s = run-append insert xs ys (insert s x .stream)
 -- a refusal is not counted
 uncounted : (a : Insertion) → isDone a ≡ false → oneIfDone a ≡ 0
 uncounted a h = ap (λ (b : Bool). cond b 1 0) h
+
+-- an alarm stays, or rings at the clock
+rang-later : (n : ℕ) (a : LastAlarm) → Rang n a → Rang (n + 1) a
+rang-later n Never r = tt
+rang-later n (At t) r = dated-later n t r
+
+rang-heard : (n : ℕ) (m : Monitor) (x t : Float) → Counts n t → Rang n (m .lastAlarm) → Rang (n + 1) (heard m (updateOf (m .window) x) t .lastAlarm)
+rang-heard n m x t c r = go (updateOf (m .window) x .alarm)
+  where
+    go : (b : Bool) → Rang (n + 1) (cond b (At t) (m .lastAlarm))
+    go true = dated n t c
+    go false = rang-later n (m .lastAlarm) r
+
+rang-seen : (n : ℕ) (m : Monitor) (d : Nearest) (t : Float) → Counts n t → Rang n (m .lastAlarm) → Rang (n + 1) (observeOf m d t .lastAlarm)
+rang-seen n m Nothing t c r = rang-later n (m .lastAlarm) r
+rang-seen n m (Distance d2) t c r = rang-heard n m _ t c r
 
 -- by any question whether there is a place for a point
 module _ {S P H : Type 0} (k : Kind S P H) (place : State P H → List Float → Bool) where
@@ -99,7 +120,7 @@ module _ {S P H : Type 0} (k : Kind S P H) (place : State P H → List Float →
       (λ (r : Outcome (State P H)). watchOf (r .stream .drift) l
       ≡ watchOf (s .drift) (seenIf (r .answer) (record { nearest = k .nearestFor s x; tick = whole n }) l))
       (λ a h. ap (λ (b : Bool). watchOf (s .drift) (cond b (record { nearest = k .nearestFor s x; tick = whole n } ∷ l) l)) (sym h))
-      (λ q e. ap (λ (t : Float). watchOf (observeOf (s .drift) (k .nearestFor s x) t) l) (c .exact))
+      (λ q e. ap (λ (t : Float). watchOf (observeOf (s .drift) (k .nearestFor s x) t) l) (c .exact .same))
 
   watches :
       (xs : List (List Float)) (n : ℕ) (s : State P H) →
@@ -117,6 +138,20 @@ module _ {S P H : Type 0} (k : Kind S P H) (place : State P H → List Float →
   -- so its report is told from them
   pub drift-heard : (p : S) (xs : List (List Float)) → Heard (k .radius p) (seen k place p xs) (after k place p xs .drift)
   drift-heard p xs = subst (Heard (k .radius p) (seen k place p xs)) (sym (drift-told p xs)) (heard-from-history (k .radius p) (seen k place p xs))
+
+  -- ---- the last alarm rang at the tick of an accepted insert
+  pub rang-told : (p : S) (xs : List (List Float)) → Rang (acceptedIn (told k place p xs)) (after k place p xs .drift .lastAlarm)
+  rang-told p xs = always (λ (n : ℕ) (s : State P H). Rang n (s .drift .lastAlarm)) rung p tt xs
+    where
+      rung :
+          (n : ℕ) (s : State P H) (x : List Float) →
+          Counts n (s .t) →
+          place s x ≡ true →
+          Rang n (s .drift .lastAlarm) →
+          Rang (n + 1) (takenOf k s x .drift .lastAlarm)
+      rung n s x c e r =
+          subst (λ (m : Monitor). Rang (n + 1) (m .lastAlarm)) (sym (tick-drift k (taking s (k .placed s x)) (k .nearestFor s x)))
+          (rang-seen n (s .drift) (k .nearestFor s x) (s .t) c r)
 
 -- ---- "Fresh means as an accepted opening gives it"
 pub opened-fresh : {S P H : Type 0} (k : Kind S P H) (p : S) → Opens k p → openOf k p .stream ≡ fresh k p

@@ -17,9 +17,9 @@ use Rattle.model.specs.Denstream as den
 use Rattle.claims.specs.Whole.{OneRun, Calls}
 use Rattle.claims.specs.DbClaims as db-claim
 use Rattle.claims.specs.DenClaims as den-claim
-use Rattle.claims.proofs.Runs.{clock-counts, run-params, drift-told, drift-heard, opened-fresh}
+use Rattle.claims.proofs.Runs.{clock-counts, run-params, drift-told, drift-heard, rang-told, opened-fresh}
 use Rattle.claims.proofs.Early.{window-takes}
-use Rattle.claims.proofs.Periods.{gap-whole, prune-whole, divides, due-is}
+use Rattle.claims.proofs.Periods.{gap-whole, prune-whole, divides, due-is, need-exact}
 use Rattle.claims.proofs.DbFresh as db-fresh
 use Rattle.claims.proofs.DbFigures as db-figures
 use Rattle.claims.proofs.DbRoom.{fits, micros-within}
@@ -51,6 +51,7 @@ module _ {S P H : Type 0} (k : Kind S P H) (place : State P H → List Float →
         due = due-is B whole _ _ (clock-counts k place p xs);
         drift = drift-told k place p xs;
         report = drift-heard k place p xs;
+        rang = rang-told k place p xs;
         window = window-takes k place none p xs;
       }
 
@@ -90,6 +91,7 @@ denstream =
         run = one-run den.denstream den.hasPlace den-fresh.none-near (omega arith) p (prune-whole p opens) xs;
         period = prune-whole p opens;
         divisor = divides p opens;
+        needed = need-exact (prune-whole p opens);
         labels = groups-told (den-claim.after p xs) (potential-few p xs);
         holdings = den-fresh.from-fresh p xs;
         figures = den-figures.figures p xs;

@@ -1,5 +1,5 @@
 -- One stored weight or link value, through an insert.
-use Prim.Native.Nat.{ℕ, _+_, _^_, _≤_, _<_}
+use Prim.Native.Nat.{ℕ, _+_, _^_, _≤_}
 use mathlib.Core.Path.{sym, subst}
 use mathlib.Core.Bool.{false}
 use native.Mathlib.Omega.{arith}
@@ -7,8 +7,8 @@ use lib.Dec.{T, le→leb}
 use lib.IntN.{pos}
 use lib.Ieee.{Float, binary64, add, le, ofInt, ofBits}
 use lib.Ieee.Fits.{add-fits}
-use Rattle.float.specs.Rounded.{_⊕_, nought, one, whole}
-use Rattle.float.specs.Laws.Whole.{whole-is, tick, le-is}
+use Rattle.float.specs.Rounded.{_⊕_, nought, one, whole, Exact}
+use Rattle.float.specs.Laws.Whole.{whole-is, le-is, exact-one, exact-sum}
 use Rattle.float.specs.Laws.Ordered.{Finite, is-fin, le-trans-all, add-mono}
 use Rattle.feature.specs.Fade.{fadeOf, Share}
 use Rattle.feature.specs.Laws.Fade.{fade-is-share}
@@ -16,7 +16,7 @@ use Rattle.model.specs.Limits.{clockMost}
 use Rattle.model.specs.Fading.{fadedTo}
 use Rattle.claims.specs.Clock.{Counts}
 use Rattle.claims.specs.Weighed.{Weighed}
-use Rattle.claims.proofs.Clocks.{small}
+use Rattle.claims.proofs.Clocks.{small, at-most, dated, dated-later}
 use Rattle.claims.proofs.Weight.{finite-between, whole-finite, faded, at-most-stored}
 
 whole-le : (n k : ℕ) → n ≤ k → k ≤ 2 ^ 53 → T (le (whole n) (whole k))
@@ -27,10 +27,8 @@ pub later : (n : ℕ) (w last : Float) → n ≤ clockMost → Weighed n w last 
 later n w last h g =
     record {
       least = g .least;
-      most = le-trans-all w (whole n) (whole (n + 1)) (g .most) (whole-le n (n + 1) (omega arith) (small n h));
-      tick = g .tick;
-      before = (let l : g .tick < n = g .before in omega arith);
-      at = g .at;
+      most = le-trans-all w (whole n) (whole (n + 1)) (g .most) (whole-le n (n + 1) (omega arith) (omega (arith, small n h)));
+      when = dated-later n last (g .when);
       faded = g .faded;
     }
 
@@ -43,18 +41,17 @@ gains-one n v t c a b =
     let i = is-fin false 1 (pos 0) in
     let f : Finite v = finite-between nought v (whole n) o (whole-finite n N) a b in
     let same : T (le one one) = unfold le in tt in
+    let grown : Exact (n + 1) (whole n ⊕ one) = exact-sum (at-most n (c .limit)) exact-one (small n (c .limit)) in
     let z : T (le one (nought ⊕ one)) = unfold add le in tt in
     let y : T (le nought one) = unfold le in tt in
     let low : T (le one (v ⊕ one)) = le-trans-all one (nought ⊕ one) (v ⊕ one) z (add-mono binary64 o f i i a same) in
-    let high : T (le (v ⊕ one) (whole (n + 1))) = subst (λ (k : Float). T (le (v ⊕ one) k)) (tick n N) (add-mono binary64 f (whole-finite n N) i i b same) in
-    let M : n + 1 ≤ 2 ^ 53 = small n (c .limit) in
+    let high : T (le (v ⊕ one) (whole (n + 1))) = subst (λ (k : Float). T (le (v ⊕ one) k)) (grown .same) (add-mono binary64 f (whole-finite n N) i i b same) in
+    let M : n + 1 ≤ 2 ^ 53 = omega (arith, small n (c .limit)) in
     let F : Finite (v ⊕ one) = finite-between one (v ⊕ one) (whole (n + 1)) i (whole-finite (n + 1) M) low high in
     record {
       least = low;
       most = high;
-      tick = n;
-      before = omega arith;
-      at = c .exact;
+      when = dated n t c;
       faded = λ lambda u.
           let s : Share (fadeOf lambda u t) = fade-is-share lambda u t in (
             faded (v ⊕ one) (fadeOf lambda u t) (n + 1) M (le-trans-all nought one (v ⊕ one) y low) high (s .least) (s .most) .0,

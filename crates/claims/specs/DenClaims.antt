@@ -1,5 +1,5 @@
 -- Demand 3 for DenStream, as document 01 says it under "A whole run". Statements only; proofs/Theorem proves them.
-use Prim.Native.Nat.{ℕ, _+_, _^_, _≤_, _<_}
+use Prim.Native.Nat.{ℕ, _+_, _-_, _^_, _≤_, _<_}
 use mathlib.Core.Path.{_≡_}
 use mathlib.Core.Logic.{_↔_, _⊎_}
 use mathlib.Core.Bool.{true, false}
@@ -7,20 +7,20 @@ use mathlib.Core.List.{List, [], map}
 use lib.IntN.{ℤ, pos, negsuc}
 use lib.ListN.{length, getD}
 use lib.Ieee.{Float, neg, le, eq}
-use Rattle.float.specs.Rounded.{_⊖_, _⊗_, nought, one, whole}
+use Rattle.float.specs.Rounded.{_⊕_, _⊖_, _⊗_, nought, one, whole, Exact}
 use Rattle.float.specs.TwoTo.{twoTo}
 use Rattle.union_find.specs.Pairs.{Chain}
 use Rattle.labels.specs.Group.{Summed}
 use Rattle.model.specs.declared.micro.DenMicro.{DenMicro}
 use Rattle.model.specs.declared.answers.Insertion.{Insertion}
-use Rattle.model.specs.Limits.{microsMost}
+use Rattle.model.specs.Limits.{microsMost, clockMost}
 use Rattle.model.specs.Run.{acceptedIn}
 use Rattle.model.specs.Periods.{Period}
 use Rattle.model.specs.DenState.{Settings, State, paramsOf}
 use Rattle.model.specs.DenCluster.{close, fadedWeights}
 use Rattle.model.specs.Denstream.{denstream, hasPlace, clusterOf}
 use Rattle.claims.specs.Lists.{Each}
-use Rattle.claims.specs.Clock.{Counts}
+use Rattle.claims.specs.Clock.{Counts, Dated}
 use Rattle.claims.specs.Weighed.{KeptBody}
 use Rattle.claims.specs.Whole as whole
 
@@ -79,9 +79,7 @@ pub record FromFresh (n : ℕ) (s : State) : Type 0 where
 -- what is kept of a micro-cluster: its body, and its birth at the tick of an accepted insert
 pub record Kept (n dim : ℕ) (m : DenMicro) : Type 0 where
   pub body : KeptBody n dim (m .body)
-  pub birth : ℕ
-  pub before : birth < n
-  pub born : m .t0 ≡ whole birth
+  pub born : Dated n (m .t0)
 
 -- what is kept of both pools
 pub record Figures (n : ℕ) (s : State) : Type 0 where
@@ -109,6 +107,12 @@ pub record OneStream (p : Settings) (xs : List (List Float)) : Type 0 where
   pub period : Period (2 ^ 38) (paramsOf p .tp)
   -- and what outliers need is no division by 0: "/ (2^(−lambda×tp) − 1)"
   pub divisor : eq (twoTo (neg (p .lambda) ⊗ paramsOf p .tp) ⊖ one) nought ≡ false
+  -- its time, "t−t0+tp", is exact: of every birth, at this clock and at every later one
+  pub needed :
+      (n : ℕ) (t0 : Float) (born : Dated n t0) (m : ℕ) →
+      n ≤ m →
+      m ≤ clockMost →
+      Exact (m - born .tick + period .ticks) (whole m ⊖ t0 ⊕ paramsOf p .tp)
   pub labels : LabelsTellGroups (clusterOf (after p xs))
   pub holdings : FromFresh (acceptedIn (told p xs)) (after p xs)
   pub figures : Figures (acceptedIn (told p xs)) (after p xs)

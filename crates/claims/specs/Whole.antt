@@ -12,9 +12,9 @@ use Rattle.model.specs.declared.answers.Opening.the-variants.{Open}
 use Rattle.model.specs.declared.answers.Insertion.{Insertion}
 use Rattle.model.specs.declared.answers.Insertion.the-variants.{Done}
 use Rattle.model.specs.Fading.{isMultiple}
-use Rattle.model.specs.Run.{runOf, answersOf}
+use Rattle.model.specs.Run.{runOf, answersOf, acceptedIn}
 use Rattle.model.specs.Stream.{State, Kind, asked, fresh, openOf, insertBy}
-use Rattle.claims.specs.History.{seenFrom}
+use Rattle.claims.specs.History.{seenFrom, Rang}
 
 -- an opening with these settings is accepted
 abbrev pub Opens : {S P H : Type 0} → Kind S P H → S → Type 0
@@ -44,6 +44,7 @@ module _ {S P H : Type 0} (k : Kind S P H) (place : State P H → List Float →
     pub drift : after p xs .drift ≡ watchOf (newOf (k .radius p)) (seen p xs)
     -- so its report is told from them: the alarms, the last one's tick, and the window of the values seen
     pub report : Heard (k .radius p) (seen p xs) (after p xs .drift)
+    pub rang : Rang (acceptedIn (told p xs)) (after p xs .drift .lastAlarm)
     -- and its window has room for any value: no insert meets the window's refusal 8
     pub window : (v : Float) → updateOf (after p xs .drift .window) v .refusal ≡ 0
 

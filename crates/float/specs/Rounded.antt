@@ -1,5 +1,6 @@
 -- Document 01: "Arithmetic is binary64, each operation rounded once, in the order the Rust writes it." Definitions only.
-use Prim.Native.Nat.{ℕ}
+use Prim.Native.Nat.{ℕ, _^_, _<_}
+use mathlib.Core.Path.{_≡_}
 use lib.IntN.{pos}
 use mathlib.Core.Bool.{false}
 use lib.Ieee.{Float, binary64, add, sub, mul, div, ofInt, ofBits}
@@ -44,3 +45,9 @@ whole n = ofInt binary64 (pos n)
 -- x is n: its sign is plus, and its size is n
 abbrev pub Is : Float → ℕ → Type 0
 Is x n = HasValue x false n 1
+
+-- Document 02, item 5: "Times and sizes are whole doubles below 2^53, which must still be shown exact."
+pub record Exact (n : ℕ) (x : Float) : Type 0 where
+  pub same : x ≡ whole n
+  pub value : Is x n
+  pub below : n < 2 ^ 53

@@ -1,4 +1,5 @@
 -- What follows from the definitions, for proofs.
+pub mod Limits
 pub mod Tick
 pub mod Body
 pub mod Periods

@@ -1,5 +1,5 @@
--- The limits of document 01, each once. Definitions only.
-use Prim.Native.Nat.{ℕ}
+-- The limits of documents 01 and 02, each once. Definitions only.
+use Prim.Native.Nat.{ℕ, _-_, _^_}
 use lib.Ieee.{Float, binary64, ofBits}
 
 -- "are fewer than 64 micro-clusters held"
@@ -10,9 +10,9 @@ microsMost = 64
 abbrev pub linksMost : ℕ
 linksMost = 2016
 
--- "Is the clock below 65,535?", as a number and as a double
+-- "Is the clock below 65,535?"; document 02, item 5: "The clock and the count of drift values rise from 65,535 to 2^40 − 1". As a number and as a double
 abbrev pub clockMost : ℕ
-clockMost = 65535
+clockMost = 2 ^ 40 - 1
 
 abbrev pub clockLimit : Float
-clockLimit = ofBits binary64 0x40ef_ffe0_0000_0000
+clockLimit = ofBits binary64 0x426f_ffff_ffff_e000

@@ -84,6 +84,18 @@ impl DbStream<f64, Feature> {
         links.iter().map(|(k, s)| ([k.0, k.1], s.value * fade(self.lambda, self.t, s.last_t))).collect()
     }
 
+    /// A made-up state: another clock and another next creation number.
+    pub fn set_clock(&mut self, t: f64, next_id: u64) {
+        (self.t, self.next_id) = (t, next_id);
+    }
+
+    /// Each micro-cluster's creation number, latest tick and weight.
+    pub fn weights(&self, line: &mut Line) {
+        for m in &self.micros {
+            line.number(m.id).whole(m.last_t).double(m.cf.weight());
+        }
+    }
+
     /// Question 9's first half: has the point a neighbour?
     pub fn absorbs(&self, x: &[f64]) -> bool {
         self.micros.iter().any(|m| sq_euclidean(m.cf.mean(), x) <= self.radius2)
@@ -132,6 +144,21 @@ impl DenStream<f64, Feature> {
 
     pub fn since_check(&self) -> u64 {
         self.drift.adwin.since_check()
+    }
+
+    /// A made-up state: another clock.
+    pub fn set_clock(&mut self, t: f64) {
+        self.t = t;
+    }
+
+    /// How many of each pool, and each one's birth, latest tick and weight.
+    pub fn weights(&self, line: &mut Line) {
+        for pool in [&self.p, &self.o] {
+            line.number(pool.len() as u64);
+            for m in pool {
+                line.whole(m.t0).whole(m.last_t).double(m.cf.weight());
+            }
+        }
     }
 
     /// Both pools together.

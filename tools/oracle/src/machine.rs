@@ -11,10 +11,10 @@ use crate::text::Line;
 pub type Db = DbStream<f64, Spherical<f64>>;
 pub type Den = DenStream<f64, Spherical<f64>>;
 
-/// Document 01's limits.
+/// The limits of documents 01 and 02.
 pub const PLACES: usize = 64;
-pub const CLOCK: f64 = 65535.0;
-pub const VALUES: u64 = 65535;
+pub const CLOCK: f64 = 1099511627775.0;
+pub const VALUES: u64 = 1099511627775;
 pub const LAMBDA_LEAST: f64 = 1.0 / 4294967296.0;
 pub const LAMBDA_MOST: f64 = 64.0;
 
@@ -121,6 +121,25 @@ impl Machine {
     /// Values taken by the window of its own.
     pub fn window_taken(&self) -> Option<u64> {
         self.window.as_ref().map(|w| w.taken)
+    }
+
+    /// The window of its own.
+    pub fn window(&self) -> Option<&Adwin> {
+        self.window.as_ref().map(|w| &w.adwin)
+    }
+
+    /// A made-up window of its own.
+    pub fn set_window(&mut self, adwin: Adwin, taken: u64) {
+        self.window = Some(Window { adwin, taken });
+    }
+
+    /// A made-up state of the current stream: another clock and, of a DBSTREAM, another next creation number.
+    pub fn set_clock(&mut self, t: f64, next_id: u64) {
+        match self.current.as_mut().map(|c| &mut c.stream) {
+            Some(Stream::Db(s)) => s.set_clock(t, next_id),
+            Some(Stream::Den(s)) => s.set_clock(t),
+            None => {}
+        }
     }
 
     /// The answer to a record whose operation takes its number of operands.

@@ -160,7 +160,7 @@ impl WindowFigures {
     }
 }
 
-/// An update by each value, from a fresh window; all are finite and at most 65,535.
+/// An update by each value, from a fresh window; all are finite.
 pub fn window_run(delta: f64, values: &[f64]) -> WindowFigures {
     let mut w = Adwin::new(delta);
     let mut alarms = 0;

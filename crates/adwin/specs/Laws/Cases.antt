@@ -65,7 +65,7 @@ module _ (w : Window) (x : Float) where
           update-cases (λ (o : Outcome) (l : List Classed). shrunk (grown w x) ≡ o) (λ e. absurd (true≢false (sym p ∙ e)))
           (λ e h. absurd (true≢false (sym q ∙ h))) (λ e h i. absurd (true≢false (sym r ∙ i))) (λ e h i. refl)
 
--- room means fewer than 65,535 values taken
+-- room means that fewer values are taken than the limit
 pub room-taken : (w : Window) → hasRoom w ≡ true → w .taken < limit
 room-taken w h = go (ltb (w .taken) limit) refl h
   where
@@ -78,7 +78,7 @@ pub record Takes (w : Window) (o : Outcome) : Type 0 where
   pub more : w .taken + cond (o .alarm) 1 0 ≤ o .window .taken
   pub within : o .window .taken ≤ limit
 
--- so does every update, and no more than 65,535 are taken
+-- so does every update, and no more are taken than the limit
 pub update-takes : (w : Window) (x : Float) → w .taken ≤ limit → Takes w (updateOf w x)
 unfolding grown shrunk
 update-takes w x h =

@@ -1,4 +1,4 @@
--- The fewest values that n buckets hold, with at most 6 in a class; so 65,535 values never fill the places.
+-- The fewest values that n buckets hold, with at most 6 in a class; so 2^40 − 1 values never fill the places.
 use Prim.Native.Nat.{ℕ, zero, suc, _+_, _-_, _*_, _/_, _^_, _≤_, _<_}
 use mathlib.Core.Path.{_≡_, refl, ap, _∙_}
 use mathlib.Core.List.{List, [], _∷_}
@@ -7,6 +7,7 @@ use native.Mathlib.Decide.{decLt}
 use native.Mathlib.Numerals.{add-one}
 use native.Mathlib.Omega.{arith}
 use native.Mathlib.Nat.{pow-le-pow-right}
+use lib.Dec.{lit<}
 use lib.ListN.{length}
 use Rattle.adwin.specs.Settings.{cap, limit, places}
 use Rattle.adwin.specs.Buckets.{Classed}
@@ -65,12 +66,12 @@ holds-fewest {c} {k} (b ∷ l) h (next g s) =
       grows (cap * c + k) (cap * d) (suc (length l)) (omega arith),
     )
 
--- no list of buckets of at most 65,535 values fills the places
+-- no list of buckets of no more values than the limit fills the places
 pub not-full : (l : List Classed) → Stacked 0 0 l → valuesIn l ≤ limit → length l < places
 unfolding fewest
 not-full l s h =
     by-cases (decLt (length l) places) (λ e. e)
     (λ e. absurd (let i : fewest (cap * 0 + 0 + length l) ≤ fewest (cap * 0 + 0) + valuesIn l = holds-fewest l (omega arith) s in
-    let j : fewest places ≡ 73722 = refl in
+    let j : limit < fewest places = lit< tt in
     let z : fewest (cap * 0 + 0) ≡ 0 = refl in
     omega (arith, rises places (length l - places), at (places + (length l - places)) (cap * 0 + 0 + length l) (omega arith))))

@@ -9,23 +9,22 @@ use lib.Ieee.{Float, nan, inf, fin, up, down, toUnsigned}
 use lib.Ieee.Fits.{down-pos}
 use lib.ListN.{length}
 use borrow.Author.Tests.{lt-ltb, le-ltb, lt-leb, le-leb}
-use Rattle.float.specs.Rounded.{whole, Is}
+use Rattle.float.specs.Rounded.{Is}
 use Rattle.float.specs.Order.{isFinite}
-use Rattle.float.specs.Laws.Whole.{whole-is}
-use Rattle.adwin.specs.Settings.{interval, limit, places}
+use Rattle.adwin.specs.Settings.{interval, limit, classMost, places}
 use Rattle.adwin.specs.Buckets.{Classed}
 use Rattle.adwin.specs.Window.{Window, Outcome, quiet, full, hasRoom, grown, shrunk, updateOf, isEmpty, newOf, widthOf}
 use Rattle.adwin.specs.History.{Told, runOf, finiteIn, droppedBy, valuesIn, Below}
 use Rattle.adwin.specs.Laws.Cases.{update-cases, not-finite, no-room, not-due, is-due}
 use Rattle.adwin.specs.Laws.Stacked.{at-most-cap, never-rises}
-use Rattle.adwin.specs.Laws.Merging.{class-low, small}
+use Rattle.adwin.specs.Laws.Merging.{class-low}
 use Rattle.adwin.specs.Laws.Sound.{Sound, sound-new, place-left, room-is, step, Run, run}
 
 -- the update by x of the window w, after the values xs
 pub record Next (xs : List Float) (w : Window) (x : Float) : Type 0 where
   -- "a value that isn't finite is no alarm and changes nothing"
   pub ignored : isFinite x ≡ false → quiet w ≡ updateOf w x
-  -- "have fewer than 65,535 finite values been taken? No: 8"
+  -- "have fewer than 65,535 finite values been taken? No: 8", by document 02, item 5, fewer than 2^40 − 1
   pub refused : isFinite x ≡ true → limit ≤ finiteIn xs → full w ≡ updateOf w x
   -- "On every 32nd finite value the cut search", and on no other
   pub searched : isFinite x ≡ true → finiteIn xs < limit → (finiteIn xs + 1) % interval ≡ 0 → shrunk (grown w x) ≡ updateOf w x
@@ -44,15 +43,15 @@ counts (fin false m e) n p h =
     let r : m * up e / down e ≡ n = ap (λ (i : ℕ). i / down e) q ∙ mul-div-cancel n (down-pos e) in
     ap (λ (i : ℕ). min i (2 ^ 64 - 1)) r ∙ min-eq-left (omega arith)
 
--- a class of more than 15 would stand for more values than a window takes
-low-classes : (l : List Classed) → valuesIn l ≤ limit → Below 15 l
+-- a higher class would stand for more values than a window takes
+low-classes : (l : List Classed) → valuesIn l ≤ limit → Below classMost l
 low-classes [] h = tt
 low-classes (b ∷ l) h = (class-low (b .class) (omega arith), low-classes l (omega arith))
 
 room : (w : Window) → w .taken < limit → length (w .held) < places → hasRoom w ≡ true
 room w h k = rw (lt-ltb (w .taken) limit h, lt-ltb (length (w .held)) places k)
 
--- a window that has taken fewer than 65,535 values, and whose places are not full, refuses none
+-- a window that has taken fewer values than the limit, and whose places are not full, refuses none
 pub not-refused : (w : Window) (x : Float) → w .taken < limit → length (w .held) < places → updateOf w x .refusal ≡ 0
 unfolding shrunk
 not-refused w x h k =
@@ -70,7 +69,7 @@ told-from-history delta xs =
     let s : Sound w = r .sound in
     let n = valuesIn (w .held) in
     let b : n ≤ limit = omega (arith, s .fits, s .within) in
-    let c : widthOf (w .sums) ≡ n = ap (toUnsigned 64) (s .width) ∙ counts (whole n) n (whole-is n (small n b)) b in
+    let c : widthOf (w .sums) ≡ n = counts (w .sums .width) n (s .width .value) b in
     record {
       taken = omega (arith, r .taken);
       sized = s .sized;

@@ -11,27 +11,24 @@ use native.Mathlib.Numerals.{add-one}
 use lib.Dec.{eqb, ltb}
 use lib.Ieee.{Float, ofBits, ofInt}
 use borrow.Author.Tests.{ltb-true, ltb-false, eqb-true, eqb-false}
-use Rattle.float.specs.Rounded.{_⊕_, whole}
-use Rattle.float.specs.Laws.Whole.{add-whole}
-use Rattle.adwin.specs.Settings.{cap, limit}
+use Rattle.float.specs.Rounded.{_⊕_, Exact}
+use Rattle.float.specs.Laws.Whole.{exact-one, exact-sum}
+use Rattle.adwin.specs.Settings.{cap, limit, classMost}
 use Rattle.adwin_buckets.specs.Bucket.{singleOf}
 use Rattle.adwin.specs.Buckets.{Classed, carry, pushOf, pairOf, nextClass}
 use Rattle.adwin.specs.History.{valuesIn, Sized}
 use Rattle.adwin.specs.Laws.Stacked.{Stacked, none, same, next, values-reverse, sized-reverse}
 
 -- ---- classes and sizes, from the values that there are
-pub class-low : (c : ℕ) → 2 ^ c ≤ limit → c ≤ 15
+pub class-low : (c : ℕ) → 2 ^ c ≤ limit → c ≤ classMost
 class-low c h =
-    by-cases (decLe c 15) (λ e. e) (λ e. absurd (let g : 16 ≤ c = omega arith in let p : 2 ^ 16 ≤ 2 ^ c = pow-le-pow-right (omega arith) g in omega arith))
+    by-cases (decLe c classMost) (λ e. e)
+    (λ e. absurd (let g : suc classMost ≤ c = omega arith in let p : 2 ^ suc classMost ≤ 2 ^ c = pow-le-pow-right (omega arith) g in omega arith))
 
 doubled : (c : ℕ) → 2 ^ (c + 1) ≡ 2 ^ c + 2 ^ c
 doubled c = ap (λ (n : ℕ). 2 ^ n) (add-one c) ∙ pow-suc 2 c ∙ omega arith
 
--- what the window holds is exact in a double
-pub small : (n : ℕ) → n ≤ limit → n ≤ 2 ^ 53
-small n h = omega arith
-
-next-is : (c : ℕ) → c ≤ 15 → nextClass c ≡ c + 1
+next-is : (c : ℕ) → c ≤ classMost → nextClass c ≡ c + 1
 next-is c h = min-eq-left (omega arith)
 
 -- ---- what follows a class follows the class below, and the other way round when that is full
@@ -51,13 +48,13 @@ pub record Carried (k : ℕ) (y : Classed) (older r : List Classed) : Type 0 whe
   pub sized : Sized r
   pub values : valuesIn r ≡ 2 ^ y .class + valuesIn older
 
-module _ (k : ℕ) (y x : Classed) (l : List Classed) (h : k < cap) (e : y .bucket .size ≡ whole (2 ^ y .class)) (z : Sized (x ∷ l))
+module _ (k : ℕ) (y x : Classed) (l : List Classed) (h : k < cap) (e : Exact (2 ^ y .class) (y .bucket .size)) (z : Sized (x ∷ l))
     (m : 2 ^ y .class + valuesIn (x ∷ l) ≤ limit) where
   -- what is shown already: the merged pair carried on, and x carried on as one more of its class
   abbrev PairGoes : Type 0
   PairGoes =
       let p = pairOf x y in
-      Stacked (p .class) 0 l → p .bucket .size ≡ whole (2 ^ p .class) → 2 ^ p .class + valuesIn l ≤ limit → Carried 0 p l (carry 0 p l)
+      Stacked (p .class) 0 l → Exact (2 ^ p .class) (p .bucket .size) → 2 ^ p .class + valuesIn l ≤ limit → Carried 0 p l (carry 0 p l)
 
   abbrev NextGoes : Type 0
   NextGoes = k + 1 < cap → Stacked (x .class) (k + 1) l → 2 ^ x .class + valuesIn l ≤ limit → Carried (k + 1) x l (carry (k + 1) x l)
@@ -65,14 +62,12 @@ module _ (k : ℕ) (y x : Classed) (l : List Classed) (h : k < cap) (e : y .buck
   pair-carried : x .class ≡ y .class → Stacked (y .class) (suc k) l → cap < k + 2 → PairGoes → Carried k y (x ∷ l) (carry 0 (pairOf x y) l)
   pair-carried f t g ih =
       let c = y .class in
-      let o : c ≤ 15 = class-low c (omega arith) in
+      let o : c ≤ classMost = class-low c (omega arith) in
       let n : nextClass c ≡ c + 1 = next-is c o in
       let d : 2 ^ nextClass c ≡ 2 ^ c + 2 ^ c = ap (λ (i : ℕ). 2 ^ i) n ∙ doubled c in
-      let u : 2 ^ x .class ≡ 2 ^ c = ap (λ (i : ℕ). 2 ^ i) f in
-      let w : x .bucket .size ≡ whole (2 ^ c) = z .0 ∙ ap whole u in
-      let p : 2 ^ c ≤ 2 ^ 53 = small (2 ^ c) (omega arith) in
+      let u : 2 ^ x .class + 2 ^ c ≡ 2 ^ nextClass c = ap (λ (i : ℕ). 2 ^ i + 2 ^ c) f ∙ sym d in
       let r = ih (subst (λ (i : ℕ). Stacked i 0 l) (sym n) (raised c (suc k) (omega arith) t))
-      (ap (λ (i : Float). i ⊕ y .bucket .size) w ∙ ap (λ (i : Float). whole (2 ^ c) ⊕ i) e ∙ add-whole (2 ^ c) (2 ^ c) p p ∙ ap whole (sym d)) (omega arith) in
+      (subst (λ (i : ℕ). Exact i (x .bucket .size ⊕ y .bucket .size)) u (exact-sum (z .0) e (omega arith))) (omega arith) in
       let v : valuesIn (carry 0 (pairOf x y) l) ≡ 2 ^ nextClass c + valuesIn l = r .values in
       record { stacked = lowered c k (subst (λ (i : ℕ). Stacked i 0 (carry 0 (pairOf x y) l)) n (r .stacked)); sized = r .sized; values = omega arith }
 
@@ -106,7 +101,7 @@ carried :
     (k : ℕ) (y : Classed) (older : List Classed) →
     k < cap →
     Stacked (y .class) k older →
-    y .bucket .size ≡ whole (2 ^ y .class) →
+    Exact (2 ^ y .class) (y .bucket .size) →
     Sized older →
     2 ^ y .class + valuesIn older ≤ limit →
     Carried k y older (carry k y older)
@@ -129,7 +124,7 @@ unfolding pushOf ofBits ofInt
 pushed held x s z m =
     let y : Classed = record { class = 0; bucket = singleOf x } in
     let v : valuesIn (reverse held) ≡ valuesIn held = values-reverse held in
-    let r : Carried 0 y (reverse held) (carry 0 y (reverse held)) = carried 0 y (reverse held) (omega arith) s refl (sized-reverse held z) (omega arith) in
+    let r : Carried 0 y (reverse held) (carry 0 y (reverse held)) = carried 0 y (reverse held) (omega arith) s exact-one (sized-reverse held z) (omega arith) in
     record {
       stacked = rw reverse-reverse (r .stacked);
       sized = sized-reverse (carry 0 y (reverse held)) (r .sized);

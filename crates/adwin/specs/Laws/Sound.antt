@@ -1,16 +1,16 @@
 -- What holds of every window that started empty, kept by each update.
-use Prim.Native.Nat.{_+_, _%_, _≤_, _<_, min}
+use Prim.Native.Nat.{ℕ, _+_, _%_, _≤_, _<_, min}
 use mathlib.Core.Path.{_≡_, refl, ap, sym, _∙_, subst}
 use mathlib.Core.Bool.{Bool, true, false, cond, not, _&&_}
 use mathlib.Core.List.{List, [], _∷_, _++_, reverse, reverse-append}
 use native.Mathlib.Omega.{arith}
-use lib.Dec.{ltb, leb}
+use lib.Dec.{ltb, leb, lit<}
 use lib.Ieee.{Float, ofBits, ofInt}
 use lib.ListN.{length, length-reverse}
 use borrow.Author.Tests.{lt-ltb, ltb-false, leb-true, leb-false}
-use Rattle.float.specs.Rounded.{_⊕_, one, whole}
+use Rattle.float.specs.Rounded.{_⊕_, nought, one, Exact}
 use Rattle.float.specs.Order.{isFinite}
-use Rattle.float.specs.Laws.Whole.{tick}
+use Rattle.float.specs.Laws.Whole.{exactly, exact-one, exact-sum}
 use Rattle.adwin.specs.Settings.{interval, limit, places}
 use Rattle.adwin.specs.Buckets.{Classed}
 use Rattle.adwin.specs.Cut.{searchOf}
@@ -19,14 +19,14 @@ use Rattle.adwin.specs.History.{runOf, finiteIn, droppedBy, droppedIn, v
 use Rattle.adwin.specs.Laws.Cases.{update-cases, room-taken}
 use Rattle.adwin.specs.Laws.Stacked.{Stacked, none, stacked-front, values-append, values-reverse, sized-append, sized-front, sized-back}
 use Rattle.adwin.specs.Laws.Fewest.{not-full}
-use Rattle.adwin.specs.Laws.Merging.{small, pushed}
+use Rattle.adwin.specs.Laws.Merging.{pushed}
 use Rattle.adwin.specs.Laws.Dropping.{Split, splits}
 
 -- what holds of every window that started empty
 pub record Sound (w : Window) : Type 0 where
   pub stacked : Stacked 0 0 (reverse (w .held))
   pub sized : Sized (w .held)
-  pub width : w .sums .width ≡ whole (valuesIn (w .held))
+  pub width : Exact (valuesIn (w .held)) (w .sums .width)
   pub fits : valuesIn (w .held) ≤ w .taken
   pub within : w .taken ≤ limit
   pub since : w .sinceCheck ≡ w .taken % interval
@@ -34,9 +34,9 @@ pub record Sound (w : Window) : Type 0 where
 -- an empty window is sound
 pub sound-new : (d : Float) → Sound (newOf d)
 unfolding ofBits ofInt
-sound-new d = record { stacked = none; sized = tt; width = refl; fits = omega arith; within = omega arith; since = refl }
+sound-new d = record { stacked = none; sized = tt; width = exactly 0 nought refl (lit< tt); fits = omega arith; within = omega arith; since = refl }
 
--- room for a value is all that 65,535 values leave
+-- there is a place for one bucket more
 pub place-left : (w : Window) → Sound w → length (w .held) < places
 place-left w s =
     let v : valuesIn (reverse (w .held)) ≤ limit = omega (arith, values-reverse (w .held), s .fits, s .within) in
@@ -59,7 +59,7 @@ sound-grown w x s h =
       record {
         stacked = p .stacked;
         sized = p .sized;
-        width = ap (λ (i : Float). i ⊕ one) (s .width) ∙ tick (valuesIn (w .held)) (small (valuesIn (w .held)) (omega (arith, s .fits))) ∙ ap whole (sym v);
+        width = subst (λ (i : ℕ). Exact i (w .sums .width ⊕ one)) (sym v) (exact-sum (s .width) exact-one (omega (arith, s .fits)));
         fits = omega (arith, s .fits);
         within = omega arith;
         since = go (due w) refl;
@@ -108,7 +108,7 @@ module _ (w : Window) (x : Float) (s : Sound w) where
       let u = grown w x in
       let g = sound-grown w x s (room-taken w h) in
       let r = searchOf (w .delta) (u .sums) (u .held) in
-      let c : Split (u .held) r = splits (w .delta) (u .sums) (u .held) (g .0 .width) (g .0 .sized) (omega (arith, g .0 .fits, g .0 .within)) in
+      let c : Split (u .held) r = splits (w .delta) (u .sums) (u .held) (g .0 .width) (g .0 .sized) in
       let v : valuesIn (u .held) ≡ valuesIn (r .dropped) + valuesIn (r .kept) = ap valuesIn (c .parts) ∙ values-append (r .dropped) (r .kept) in
       record {
         sound = record {

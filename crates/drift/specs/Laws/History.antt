@@ -40,7 +40,7 @@ one-more : (b : Bool) (t : Float) (l : List Float) → length (cond b (t ∷ [])
 one-more true t l = omega arith
 one-more false t l = omega arith
 
--- every ring takes a value, so there are at most 65,535
+-- every ring takes a value, so there are no more than the limit
 few-rings : (w : Window) (radius : Float) (l : List Seen) → w .taken ≤ limit → w .taken + length (ringsIn w radius l) ≤ limit
 unfolding ringsIn
 few-rings w radius [] h = omega arith

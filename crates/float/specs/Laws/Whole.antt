@@ -1,8 +1,8 @@
 -- Whole numbers as doubles: `whole n` is n as a double.
 -- Up to 2 ^ 53 sums, differences, products, remainders and comparisons of them are those of the numbers. Assumes nothing.
-use mathlib.Core.Path.{_≡_, refl, sym, ap, _∙_}
+use mathlib.Core.Path.{_≡_, refl, sym, ap, _∙_, subst}
 use Prim.Native.Nat.{ℕ, zero, suc, _+_, _-_, _*_, _%_, _^_, _≤_, _<_}
-use native.Mathlib.Nat.{le-trans, le-of-eq, le-of-lt, mul-one, mul-comm, mul-assoc, mul-mul-mul-comm, add-mul, mul-le-mul-right}
+use native.Mathlib.Nat.{le-of-eq, le-of-lt, mul-one, mul-comm, mul-assoc, mul-mul-mul-comm, add-mul, mul-le-mul-right}
 use native.Mathlib.Nat.{mul-lt-mul-of-pos-right, lt-of-mul-lt-mul-right, eq-of-mul-eq-mul-right, mul-sub, mul-pos, mul-mod-left, mul-div-cancel}
 use native.Mathlib.Nat.{eq-or-lt-of-le}
 use native.Mathlib.Omega.{arith}
@@ -16,7 +16,7 @@ use lib.Ieee.Bits.{cond-no}
 use lib.Arith.{mod-mul}
 use mathlib.Core.Logic.{inl, inr}
 use lib.Ieee.Scale.{round-same}
-use Rattle.float.specs.Rounded.{_⊕_, _⊖_, one, whole, Is}
+use Rattle.float.specs.Rounded.{_⊕_, _⊖_, one, whole, Is, Exact}
 use Rattle.float.specs.Laws.Opened.{add-fin, sum-same, sum-away, mul-fin}
 use Rattle.float.specs.Laws.Compare.{same, or-l, or-r}
 
@@ -24,6 +24,10 @@ use Rattle.float.specs.Laws.Compare.{same, or-l, or-r}
 pub whole-is : (n : ℕ) → n ≤ 2 ^ 53 → Is (whole n) n
 unfolding ofInt
 whole-is n h = round-whole binary64 false n h
+
+-- so it is, by whatever name
+pub exactly : (n : ℕ) (x : Float) → x ≡ whole n → n < 2 ^ 53 → Exact n x
+exactly n x e h = record { same = e; value = subst (λ (y : Float). Is y n) (sym e) (whole-is n (le-of-lt h)); below = h }
 
 -- a fraction n * c / c rounds to n
 rounded : (n a c : ℕ) → 0 < c → a ≡ n * c → round binary64 false a c ≡ whole n
@@ -49,14 +53,14 @@ add-is (fin false m e) (fin false l d) n k p q =
     ∙ rounded (n + k) (m * up e * down d + l * up d * down e) (down e * down d) (mul-pos (down-pos e) (down-pos d))
     (let a = size m e n (down d) (p .1) in let b = size' l d k (down e) (q .1) in let c = add-mul n k (down e * down d) in omega arith)
 
--- so with whole numbers
-pub add-whole : (n k : ℕ) → n ≤ 2 ^ 53 → k ≤ 2 ^ 53 → whole n ⊕ whole k ≡ whole (n + k)
-add-whole n k h l = add-is (whole n) (whole k) n k (whole-is n h) (whole-is k l)
+-- 1 is exact
+pub exact-one : Exact 1 one
+unfolding ofBits ofInt
+exact-one = exactly 1 one refl (lit< tt)
 
--- a clock's tick
-pub tick : (n : ℕ) → n ≤ 2 ^ 53 → whole n ⊕ one ≡ whole (n + 1)
-unfolding ofBits
-tick n h = add-is (whole n) one n 1 (whole-is n h) (refl, refl)
+-- sums of exact whole doubles are exact, while they stay below 2^53
+pub exact-sum : {n k : ℕ} {x y : Float} → Exact n x → Exact k y → n + k < 2 ^ 53 → Exact (n + k) (x ⊕ y)
+exact-sum {n} {k} {x} {y} p q h = exactly (n + k) (x ⊕ y) (add-is x y n k (p .value) (q .value)) h
 
 sub-opened : (f : Format) (m : ℕ) (e : ℤ) (l : ℕ) (d : ℤ) → sub f (fin false m e) (fin false l d) ≡ add f (fin false m e) (fin true l d)
 unfolding sub
@@ -80,9 +84,9 @@ sub-is (fin false m e) (fin false l d) n k g p q =
     ∙ sum-away binary64 false (m * up e * down d) (l * up d * down e) (down e * down d) (omega arith)
     ∙ rounded (n - k) (m * up e * down d - l * up d * down e) (down e * down d) (mul-pos (down-pos e) (down-pos d)) (omega arith)
 
--- so with whole numbers
-pub sub-whole : (n k : ℕ) → n ≤ 2 ^ 53 → k ≤ n → whole n ⊖ whole k ≡ whole (n - k)
-sub-whole n k h g = sub-is (whole n) (whole k) n k g (whole-is n h) (whole-is k (le-trans g h))
+-- differences of exact whole doubles are exact
+pub exact-difference : {n k : ℕ} {x y : Float} → Exact n x → Exact k y → k ≤ n → Exact (n - k) (x ⊖ y)
+exact-difference {n} {k} {x} {y} p q g = exactly (n - k) (x ⊖ y) (sub-is x y n k g (p .value) (q .value)) (let b : n < 2 ^ 53 = p .below in omega arith)
 
 -- products are those of the numbers
 pub mul-is : (x y : Float) (n k : ℕ) → Is x n → Is y k → mul binary64 x y ≡ whole (n * k)

@@ -99,8 +99,8 @@ enum Input {
     Den(Settings, Points),
 }
 
-/// What a window and a stream take at most.
-const LIMIT: usize = 65_535;
+/// Inserts of a session, and values of a window before a fresh one.
+const INSERTS: usize = 65_535;
 
 impl Input {
     fn window(jumps: bool, n: usize) -> Self {
@@ -130,19 +130,19 @@ fn cases() -> Vec<Case> {
     vec![
         of("window update, steady", |n| Input::window(false, n), 1_000_000, 0),
         of("window update, a jump every 1,000", |n| Input::window(true, n), 1_000_000, 0),
-        of("dbstream insert, 10 live, one neighbour", |n| Input::db(Kind::Lone(10), n), LIMIT, 0),
-        of("dbstream insert, 30 live, one neighbour", |n| Input::db(Kind::Lone(30), n), LIMIT, 0),
-        of("dbstream insert, 64 live, one neighbour", |n| Input::db(Kind::Lone(64), n), LIMIT, 0),
-        of("dbstream insert, 10 live, two neighbours", |n| Input::db(Kind::Paired(10), n), LIMIT, 0),
-        of("dbstream insert, 30 live, two neighbours", |n| Input::db(Kind::Paired(30), n), LIMIT, 0),
-        of("dbstream insert, 64 live, two neighbours", |n| Input::db(Kind::Paired(64), n), LIMIT, 0),
+        of("dbstream insert, 10 live, one neighbour", |n| Input::db(Kind::Lone(10), n), INSERTS, 0),
+        of("dbstream insert, 30 live, one neighbour", |n| Input::db(Kind::Lone(30), n), INSERTS, 0),
+        of("dbstream insert, 64 live, one neighbour", |n| Input::db(Kind::Lone(64), n), INSERTS, 0),
+        of("dbstream insert, 10 live, two neighbours", |n| Input::db(Kind::Paired(10), n), INSERTS, 0),
+        of("dbstream insert, 30 live, two neighbours", |n| Input::db(Kind::Paired(30), n), INSERTS, 0),
+        of("dbstream insert, 64 live, two neighbours", |n| Input::db(Kind::Paired(64), n), INSERTS, 0),
         of("dbstream insert, dim 15, 64 absorb, 2,016 links", |n| Input::db(Kind::Worst, n), 1_000, 0),
         of("dbstream cluster, 64 live, no link", |n| Input::db(Kind::Lone(64), n), 2_000, 2_000),
         of("dbstream cluster, 64 live, 32 links", |n| Input::db(Kind::Paired(64), n), 2_000, 2_000),
         of("dbstream cluster, 64 live, 2,016 links", |n| Input::db(Kind::Worst, n), 2_000, 2_000),
-        of("denstream insert, 10 live", |n| Input::den(Kind::Lone(10), n), LIMIT, 0),
-        of("denstream insert, 30 live", |n| Input::den(Kind::Lone(30), n), LIMIT, 0),
-        of("denstream insert, 64 live", |n| Input::den(Kind::Lone(64), n), LIMIT, 0),
+        of("denstream insert, 10 live", |n| Input::den(Kind::Lone(10), n), INSERTS, 0),
+        of("denstream insert, 30 live", |n| Input::den(Kind::Lone(30), n), INSERTS, 0),
+        of("denstream insert, 64 live", |n| Input::den(Kind::Lone(64), n), INSERTS, 0),
         of("denstream cluster, 10 potential", |n| Input::den(Kind::Lone(10), n), 2_000, 2_000),
         of("denstream cluster, 64 potential", |n| Input::den(Kind::Lone(64), n), 2_000, 2_000),
     ]
@@ -177,10 +177,10 @@ impl std::fmt::Display for Told {
     }
 }
 
-/// A session on one side; a fresh window after every 65,535 values.
+/// A session on one side.
 fn session(side: Side, input: &Input, rounds: u64, numbers: &mut [u64]) -> Told {
     match input {
-        Input::Window(values) => Told::Windows(values.chunks(LIMIT).map(|c| (side.window)(0.002, c)).collect()),
+        Input::Window(values) => Told::Windows(values.chunks(INSERTS).map(|c| (side.window)(0.002, c)).collect()),
         Input::Db(p, points) => Told::Stream((side.dbstream)(p, points, rounds, numbers)),
         Input::Den(p, points) => Told::Stream((side.denstream)(p, points, rounds, numbers)),
     }
@@ -242,7 +242,7 @@ fn run(runs: usize, word: &str) {
         }
         let (best, median) = best_and_median(rust.iter().map(|r| r.0).collect());
         print!("{:<50} {best:>9.1} {median:>9.1}", c.name);
-        if c.n == LIMIT {
+        if c.n == INSERTS {
             print!("  session {:>6.1} ms", best * 65.535e-3);
         }
         #[cfg(feature = "product")]

@@ -67,7 +67,7 @@ use Rattle.adwin_buckets.proofs.search.some_fails_in.Code as code
 
 -- the code's PLACES
 abbrev places : ℕ
-places = 81
+places = 225
 
 abbrev Rows : RattleType
 Rows = Array B.the-row places
