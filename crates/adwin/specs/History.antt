@@ -70,7 +70,7 @@ pub record Told (delta : Float) (xs : List Float) (w : Window) : Type 0 where
   -- "Over 6 in a class, the two oldest merge into the newest of the next."
   pub neverRising : NeverRising (w .held)
   pub atMostSix : (c : ℕ) → countOf c (w .held) ≤ cap
-  -- no class is above the highest that the values can make
+  -- no class stands for more values than the limit
   pub classes : Below classMost (w .held)
   -- the places for buckets are never full
   pub neverFull : length (w .held) < places

@@ -18,7 +18,7 @@ interval = 32
 abbrev pub limit : ℕ
 limit = 2 ^ 40 - 1
 
--- The highest class that so many values can make: 2^39 of them (`classes` of `Told`).
+-- No class is higher: a bucket of class 40 would stand for more values than are taken (`classes` of `Told`).
 abbrev pub classMost : ℕ
 classMost = 39
 

@@ -25,7 +25,7 @@ pub whole-is : (n : ℕ) → n ≤ 2 ^ 53 → Is (whole n) n
 unfolding ofInt
 whole-is n h = round-whole binary64 false n h
 
--- so it is, by whatever name
+-- so is every double that is one
 pub exactly : (n : ℕ) (x : Float) → x ≡ whole n → n < 2 ^ 53 → Exact n x
 exactly n x e h = record { same = e; value = subst (λ (y : Float). Is y n) (sym e) (whole-is n (le-of-lt h)); below = h }
 
