@@ -77,7 +77,7 @@ told-from-history delta xs =
       neverRising = never-rises (w .held) (s .stacked);
       atMostSix = at-most-cap (w .held) (s .stacked);
       classes = low-classes (w .held) b;
-      neverFull = place-left w s;
+      neverFull = omega (arith, place-left w s);
       dropped = r .sized;
       width = omega (arith, r .values);
     }
