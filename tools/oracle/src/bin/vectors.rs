@@ -42,6 +42,9 @@ fn exp2_arguments(r: &mut Random) -> Vec<f64> {
         -64.0,
         -64.0 * 65535.0,
         -1e10,
+        // A lambda times the oldest age: the fastest fading, and the slowest, which is not 0.
+        -64.0 * 1099511627774.0,
+        -1099511627774.0 / 4294967296.0,
     ]);
     v.extend((0..RANDOM / 4).map(|_| -r.unit()));
     v.extend((0..RANDOM / 4).map(|_| -60.0 * r.unit()));
@@ -52,10 +55,12 @@ fn exp2_arguments(r: &mut Random) -> Vec<f64> {
 
 fn ln_arguments(r: &mut Random) -> Vec<f64> {
     let mut v = vec![f64::NAN, f64::INFINITY, 1.0, f64::MAX, 2f64.powi(1023), 10.0, 1e16, 1.5, 2000.0, 65535.0];
+    // The width of the longest window.
+    v.push(1099511627775.0);
     v.extend([1f64.next_up(), 1f64.next_up().next_up(), 1.0 + 2f64.powi(-30), 1.0 + 2f64.powi(-40)]);
     v.extend(around(&[2.0, 4.0, 8.0, 2f64.powi(52), 2f64.powi(53), 2f64.powi(1022)]));
     // 2 × max(1, ln width) / delta, and beta mu / (beta mu − 1), as the windows and the streams ask.
-    v.extend([10.0, 32.0, 64.0, 1000.0, 65535.0].map(|w: f64| 2.0 * w.ln_standin().max(1.0) / 0.002));
+    v.extend([10.0, 32.0, 64.0, 1000.0, 65535.0, 1099511627775.0].map(|w: f64| 2.0 * w.ln_standin().max(1.0) / 0.002));
     v.extend([2.0, 1.5, 1.0000000000000002, 10.0, 1e16].map(|b: f64| b / (b - 1.0)));
     v.extend((0..RANDOM / 4).map(|_| 1.0 + r.unit()));
     v.extend((0..RANDOM / 4).map(|_| 1.0 + r.size(-52, -1)));
