@@ -37,13 +37,13 @@ fn updates(window: Adwin, values: &[f64]) {
 }
 
 // The fullest window, a value short of a cut search, with so many values taken: buckets of class 37 have the mean `old`, the others 1.
+// The next class starts behind the second bucket, and then behind each sixth.
 fn fullest(old: f64, taken: u64) -> Adwin {
     let mut buckets = [Bucket::single(old); PLACES];
     let mut classes = [0; PLACES];
     let mut size = 137438953472.0;
     let mut class: u8 = 37;
     let mut mean = old;
-    let mut left: usize = 2;
     let mut width = 0.0;
     let mut total = 0.0;
     let mut i: usize = 0;
@@ -57,9 +57,7 @@ fn fullest(old: f64, taken: u64) -> Adwin {
         width = width + size;
         total = total + size * mean;
         i += 1;
-        left = if left > 1 { left - 1 } else { 0 };
-        if left == 0 {
-            left = 6;
+        if i % 6 == 2 {
             size = size / 2.0;
             mean = 1.0;
             class = if class > 0 { class - 1 } else { 0 };

@@ -8,11 +8,11 @@ use Rattle.limits.proofs.window.fullest.Statement.{statement}
 use Rattle.limits.proofs.window.fullest.Tie as tie
 
 abbrev Inv-loop : tie.InvT-loop
-Inv-loop old taken buckets₀ classes₀ size₀ class₀ mean₀ left₀ width₀ total₀ i₀ buckets classes size class mean left width total i =
+Inv-loop old taken buckets₀ classes₀ size₀ class₀ mean₀ width₀ total₀ i₀ buckets classes size class mean width total i =
     (length buckets ≡ places) × (length classes ≡ places)
 
 abbrev μ-loop : tie.MeasureT-loop
-μ-loop old taken buckets₀ classes₀ size₀ class₀ mean₀ left₀ width₀ total₀ i₀ buckets classes size class mean left width total i = 224 - i
+μ-loop old taken buckets₀ classes₀ size₀ class₀ mean₀ width₀ total₀ i₀ buckets classes size class mean width total i = 224 - i
 
 pub fullest-spec : {M : Type 1} → statement M
 fullest-spec =
@@ -21,7 +21,6 @@ fullest-spec =
     Inv-loop
     μ-loop
     (λ c κs. search needs)
-    (λ c. search needs)
     (λ c. search needs)
     (λ c. search needs)
     (λ c. search needs)
