@@ -44,6 +44,7 @@ module _ {S P H : Type 0} (k : Kind S P H) (place : State P H → List Float →
     pub drift : after p xs .drift ≡ watchOf (newOf (k .radius p)) (seen p xs)
     -- so its report is told from them: the alarms, the last one's tick, and the window of the values seen
     pub report : Heard (k .radius p) (seen p xs) (after p xs .drift)
+    -- and the last alarm, if there is one, rang at the tick of an accepted insert, exactly
     pub rang : Rang (acceptedIn (told p xs)) (after p xs .drift .lastAlarm)
     -- and its window has room for any value: no insert meets the window's refusal 8
     pub window : (v : Float) → updateOf (after p xs .drift .window) v .refusal ≡ 0
