@@ -8,6 +8,8 @@ use native.Mathlib.Omega.{arith}
 use lib.Dec.{eqb}
 use lib.Ieee.{Float}
 use borrow.Author.Tests.{lt-ltb, eqb-true}
+use Rattle.lists.specs.Each.{Each}
+use Rattle.lists.specs.Laws.Each.{each-more, each-append}
 use Rattle.float.specs.Rounded.{_⊕_, nought, one}
 use Rattle.model.specs.declared.micro.MicroId.{MicroId}
 use Rattle.model.specs.declared.micro.DbMicro.{DbMicro}
@@ -19,12 +21,12 @@ use Rattle.model.specs.DbInsert.{microStays, linkStays, neighboursOf, born, joi
 use Rattle.model.specs.Dbstream.{dbstream, takenOf, hasPlace}
 use Rattle.model.specs.Stream.{taking}
 use Rattle.model.specs.Laws.Stream.{tick-cases}
-use Rattle.claims.specs.Lists.{In, Each, Ascending}
+use Rattle.claims.specs.Lists.{In, Ascending}
 use Rattle.claims.specs.Clock.{Counts}
 use Rattle.claims.specs.Weighed.{Weighed, KeptBody}
 use Rattle.claims.specs.DbClaims.{Older, Figures, after, told}
 use Rattle.claims.proofs.Places.{each-in}
-use Rattle.claims.proofs.Order.{each-more, each-append, each-retain, each-map, ascending-map, ascending-append}
+use Rattle.claims.proofs.Order.{each-retain, each-map, ascending-map, ascending-append}
 use Rattle.claims.proofs.Runs.{always}
 use Rattle.claims.proofs.Weights.{later, regains, above-0, zero-most, zero-least}
 use Rattle.claims.proofs.Bodies.{body-later, body-absorbing, body-birth}

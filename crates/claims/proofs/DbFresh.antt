@@ -7,6 +7,8 @@ use native.Mathlib.Omega.{arith}
 use lib.Dec.{eqb}
 use lib.Ieee.{Float, lt}
 use borrow.Author.Tests.{eqb-true}
+use Rattle.lists.specs.Each.{Each}
+use Rattle.lists.specs.Laws.Each.{each-more, each-append}
 use Rattle.float.specs.Rounded.{_⊕_, one}
 use Rattle.lists.specs.Retain.{retain}
 use Rattle.drift.specs.declared.Nearest.the-variants.{Nothing}
@@ -21,9 +23,9 @@ use Rattle.model.specs.DbInsert.{linkStays, isHeld, neighboursOf, born, joined,
 use Rattle.model.specs.Dbstream.{dbstream, hasPlace, fresh, takenOf}
 use Rattle.model.specs.Stream.{taking}
 use Rattle.model.specs.Laws.Stream.{tick-cases}
-use Rattle.claims.specs.Lists.{In, Each, Ascending}
+use Rattle.claims.specs.Lists.{In, Ascending}
 use Rattle.claims.specs.DbClaims.{Older, Before, Live, LinksHeld, FromFresh, after, told}
-use Rattle.claims.proofs.Order.{and-true, each-more, each-append, ascending-snoc, in-append, each-retain, ascending-retain, retain-passes}
+use Rattle.claims.proofs.Order.{and-true, ascending-snoc, in-append, each-retain, ascending-retain, retain-passes}
 use Rattle.claims.proofs.Order.{in-retain, any-in, each-map, ascending-map, in-map, map-in}
 use Rattle.claims.proofs.Runs.{always, clock-counts}
 use Rattle.claims.proofs.DbCases.{placed-cases}

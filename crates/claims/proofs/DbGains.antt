@@ -8,12 +8,14 @@ use native.Mathlib.Omega.{arith}
 use lib.Dec.{eqb, ltb}
 use lib.Ieee.{Float}
 use borrow.Author.Tests.{ltb-true, ltb-false, eqb-true, eqb-false, lt-ltb}
+use Rattle.lists.specs.Each.{Each}
+use Rattle.lists.specs.Laws.Each.{each-more, each-append}
 use Rattle.model.specs.declared.micro.MicroId.{MicroId}
 use Rattle.model.specs.declared.link.Link.{Link}
 use Rattle.model.specs.DbInsert.{pairOf, pairsOf, gains, before, sameEnds, gainIn, gainOf}
-use Rattle.claims.specs.Lists.{In, Each, Ascending}
+use Rattle.claims.specs.Lists.{In, Ascending}
 use Rattle.claims.specs.DbClaims.{Before}
-use Rattle.claims.proofs.Order.{each-more, each-append, each-map}
+use Rattle.claims.proofs.Order.{each-map}
 
 -- ---- the order of links
 -- the four tests, and which order they tell

@@ -10,6 +10,8 @@ use lib.Dec.{eqb, ltb}
 use lib.ListN.{length, length-map, length-append}
 use lib.Ieee.{Float}
 use borrow.Author.Tests.{ltb-true, ltb-false, eqb-true, eqb-false, not-true}
+use Rattle.lists.specs.Each.{Each}
+use Rattle.lists.specs.Laws.Each.{each-more}
 use Rattle.float.specs.Rounded.{_⊕_, one}
 use Rattle.lists.specs.Retain.{retain}
 use Rattle.lists.specs.Laws.Sizes.{retain-length}
@@ -24,10 +26,10 @@ use Rattle.model.specs.DbInsert.{placed, nearestFor}
 use Rattle.model.specs.Dbstream.{dbstream, takenOf, hasPlace}
 use Rattle.model.specs.Stream.{taking}
 use Rattle.model.specs.Laws.Stream.{tick-cases}
-use Rattle.claims.specs.Lists.{In, Each, Ascending}
+use Rattle.claims.specs.Lists.{In, Ascending}
 use Rattle.claims.specs.DbClaims.{Older, Before, Live, LinksHeld, FromFresh, Fits, gainUnbounded, after, told}
 use Rattle.claims.proofs.Places.{each-in}
-use Rattle.claims.proofs.Order.{each-more, each-retain, ascending-retain, retain-passes, each-map, ascending-map, in-map}
+use Rattle.claims.proofs.Order.{each-retain, ascending-retain, retain-passes, each-map, ascending-map, in-map}
 use Rattle.claims.proofs.Runs.{always}
 use Rattle.claims.proofs.DbCases.{placed-cases}
 use Rattle.claims.proofs.DbFresh.{Held, GoodPair, Joining, a-gain, one-gain, joining, joined-ascends, from-fresh}

@@ -3,6 +3,8 @@ use Prim.Native.Nat.{ℕ, _+_, _≤_}
 use mathlib.Core.Path.{sym, subst}
 use mathlib.Core.List.{List, [], _∷_}
 use lib.Ieee.{Float}
+use Rattle.lists.specs.Each.{Each}
+use Rattle.lists.specs.Laws.Each.{each-more, each-append}
 use Rattle.float.specs.Rounded.{_⊕_, one}
 use Rattle.model.specs.declared.micro.DenMicro.{DenMicro}
 use Rattle.model.specs.Limits.{clockMost}
@@ -13,11 +15,10 @@ use Rattle.model.specs.DenInsert.{absorbs, newborn, placed, nearestFor, potenti
 use Rattle.model.specs.Denstream.{denstream, hasPlace, takenOf}
 use Rattle.model.specs.Stream.{taking}
 use Rattle.model.specs.Laws.Stream.{tick-cases}
-use Rattle.claims.specs.Lists.{Each}
 use Rattle.claims.specs.Clock.{Counts}
 use Rattle.claims.specs.DenClaims.{Kept, Figures, after, told}
 use Rattle.claims.proofs.Places.{at-in, each-in}
-use Rattle.claims.proofs.Order.{each-more, each-append, each-set, each-without, each-retain}
+use Rattle.claims.proofs.Order.{each-set, each-without, each-retain}
 use Rattle.claims.proofs.Clocks.{dated, dated-later}
 use Rattle.claims.proofs.Runs.{always}
 use Rattle.claims.proofs.Bodies.{body-later, body-absorbing, body-birth}

@@ -5,9 +5,11 @@ use mathlib.Core.Bool.{Bool, true, false, _&&_, _||_, cond, true≢false}
 use Prim.Native.Nat.{ℕ, zero, suc}
 use lib.ListN.{set}
 use mathlib.Core.List.{List, [], _∷_, _++_, map}
+use Rattle.lists.specs.Each.{Each}
+use Rattle.lists.specs.Laws.Each.{each-append}
 use Rattle.lists.specs.Retain.{retain, without}
 use Rattle.model.specs.Any.{any}
-use Rattle.claims.specs.Lists.{In, Each, Ascending}
+use Rattle.claims.specs.Lists.{In, Ascending}
 
 -- three tests that pass together pass each
 pub and-true : (a b c : Bool) → (a && b && c) ≡ true → (a ≡ true) × (b ≡ true) × (c ≡ true)
@@ -17,15 +19,6 @@ and-true true false c e = absurd (true≢false (sym e))
 and-true false b c e = absurd (true≢false (sym e))
 
 module _ {A : Type 0} where
-  -- what follows from P holds wherever P does
-  pub each-more : {P Q : A → Type 0} → ((a : A) → P a → Q a) → (l : List A) → Each P l → Each Q l
-  each-more f [] e = tt
-  each-more f (a ∷ l) e = (f a (e .0), each-more f l (e .1))
-
-  pub each-append : (P : A → Type 0) (l k : List A) → Each P l → Each P k → Each P (l ++ k)
-  each-append P [] k d e = e
-  each-append P (a ∷ l) k d e = (d .0, each-append P l k (d .1) e)
-
   pub ascending-snoc : (R : A → A → Type 0) (l : List A) (b : A) → Ascending R l → Each (λ (a : A). R a b) l → Ascending R (l ++ (b ∷ []))
   ascending-snoc R [] b h e = (tt, tt)
   ascending-snoc R (a ∷ l) b h e = (each-append (R a) l (b ∷ []) (h .0) (e .0, tt), ascending-snoc R l b (h .1) (e .1))

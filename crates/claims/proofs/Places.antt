@@ -7,7 +7,8 @@ use mathlib.Core.List.{List, [], _∷_, map}
 use mathlib.Core.Option.{some, none}
 use native.Mathlib.Omega.{arith}
 use lib.ListN.{length, getD}
-use Rattle.claims.specs.Lists.{At, In, Each}
+use Rattle.lists.specs.Each.{Each}
+use Rattle.claims.specs.Lists.{At, In}
 
 -- nothing is not something
 pub not-none {ℓ} : {A : Type ℓ} {a : A} → none ≡ some a → ⊥

@@ -8,6 +8,7 @@ use lib.Dec.{T}
 use lib.IntN.{ℤ, pos, negsuc}
 use lib.ListN.{length}
 use lib.Ieee.{Float, le}
+use Rattle.lists.specs.Each.{Each}
 use Rattle.float.specs.Rounded.{_⊗_, one, whole}
 use Rattle.union_find.specs.Pairs.{Chain}
 use Rattle.model.specs.declared.micro.MicroId.{MicroId}
@@ -21,7 +22,7 @@ use Rattle.model.specs.DbState.{Settings, State, paramsOf}
 use Rattle.model.specs.DbInsert.{idOf, pairsOf, gainIn, absent, neighboursOf, joined}
 use Rattle.model.specs.DbCluster.{isStrong, isDense}
 use Rattle.model.specs.Dbstream.{dbstream, hasPlace, clusterOf}
-use Rattle.claims.specs.Lists.{At, In, Each, Ascending}
+use Rattle.claims.specs.Lists.{At, In, Ascending}
 use Rattle.claims.specs.Clock.{Counts}
 use Rattle.claims.specs.Weighed.{Weighed, KeptBody}
 use Rattle.claims.specs.Whole as whole

@@ -7,6 +7,7 @@ use mathlib.Core.List.{List, [], map}
 use lib.IntN.{ℤ, pos, negsuc}
 use lib.ListN.{length, getD}
 use lib.Ieee.{Float, neg, le, eq}
+use Rattle.lists.specs.Each.{Each}
 use Rattle.float.specs.Rounded.{_⊕_, _⊖_, _⊗_, nought, one, whole, Exact}
 use Rattle.float.specs.TwoTo.{twoTo}
 use Rattle.union_find.specs.Pairs.{Chain}
@@ -19,7 +20,6 @@ use Rattle.model.specs.Periods.{Period}
 use Rattle.model.specs.DenState.{Settings, State, paramsOf}
 use Rattle.model.specs.DenCluster.{close, fadedWeights}
 use Rattle.model.specs.Denstream.{denstream, hasPlace, clusterOf}
-use Rattle.claims.specs.Lists.{Each}
 use Rattle.claims.specs.Clock.{Counts, Dated}
 use Rattle.claims.specs.Weighed.{KeptBody}
 use Rattle.claims.specs.Whole as whole

@@ -5,3 +5,4 @@ pub mod Shift
 pub mod Maps
 pub mod Sizes
 pub mod Counted
+pub mod Each

@@ -2,4 +2,5 @@
 pub mod Retain
 pub mod Search
 pub mod Rest
+pub mod Each
 pub mod Laws
