@@ -89,7 +89,8 @@ module _ (s : State) where
   abbrev Pair : ℕ → ℕ → Type 0
   Pair = Joined (length (strongOnes s)) pairs
 
-  strong-below : (i : ℕ) → strongAt s i ≡ true → i < length (strongOnes s)
+  -- a strong one is held
+  pub strong-below : (i : ℕ) → strongAt s i ≡ true → i < length (strongOnes s)
   strong-below i e =
       let m = test-there (isStrong s) (s .held .micros) i e in
       omega (arith, at-below (s .held .micros) i (m .0) (m .1), length-map (s .held .micros) (isStrong s))

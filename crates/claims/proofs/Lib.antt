@@ -2,6 +2,7 @@
 pub mod Order
 pub mod Places
 pub mod Counts
+pub mod Finds
 pub mod Clocks
 pub mod Runs
 pub mod Early
@@ -18,9 +19,11 @@ pub mod DbNumbers
 pub mod DbRoom
 pub mod DbFigures
 pub mod DbLabels
+pub mod DbFinds
 pub mod DbTwins
 pub mod DbTogether
 pub mod DenPairs
+pub mod DenFinds
 pub mod DenLabels
 pub mod DenTrials
 pub mod DenCases

@@ -19,6 +19,11 @@ and-true true false c e = absurd (true≢false (sym e))
 and-true false b c e = absurd (true≢false (sym e))
 
 module _ {A : Type 0} where
+  -- two statements of each are one
+  pub each-both : (P Q : A → Type 0) (l : List A) → Each P l → Each Q l → Each (λ (a : A). P a × Q a) l
+  each-both P Q [] d e = tt
+  each-both P Q (a ∷ l) d e = ((d .0, e .0), each-both P Q l (d .1) (e .1))
+
   pub ascending-snoc : (R : A → A → Type 0) (l : List A) (b : A) → Ascending R l → Each (λ (a : A). R a b) l → Ascending R (l ++ (b ∷ []))
   ascending-snoc R [] b h e = (tt, tt)
   ascending-snoc R (a ∷ l) b h e = (each-append (R a) l (b ∷ []) (h .0) (e .0, tt), ascending-snoc R l b (h .1) (e .1))

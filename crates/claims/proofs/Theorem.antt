@@ -25,10 +25,12 @@ use Rattle.claims.proofs.DbFigures as db-figures
 use Rattle.claims.proofs.DbRoom.{fits, micros-within}
 use Rattle.claims.proofs.DbNumbers.{never-reused}
 use Rattle.claims.proofs.DbLabels.{labels-tell}
+use Rattle.claims.proofs.DbFinds as db-finds
 use Rattle.claims.proofs.DbTwins.{same-refusals, same-holdings}
 use Rattle.claims.proofs.DbTogether.{stay-together}
 use Rattle.claims.proofs.DenFresh as den-fresh
 use Rattle.claims.proofs.DenFigures as den-figures
+use Rattle.claims.proofs.DenFinds as den-finds
 use Rattle.claims.proofs.DenLabels.{groups-told}
 
 -- ---- of either stream
@@ -63,6 +65,7 @@ dbstream =
         run = one-run db.dbstream db.hasPlace db-fresh.none-near (omega arith) p (gap-whole p opens) xs;
         period = gap-whole p opens;
         labels = labels-tell (db-claim.after p xs) (db-fresh.from-fresh p xs .ascending) (micros-within p xs);
+        finds = db-finds.told (db-claim.after p xs) (db-fresh.from-fresh p xs .ascending) (db-fresh.from-fresh p xs .links) (micros-within p xs);
         holdings = db-fresh.from-fresh p xs;
         figures = db-figures.figures p xs;
         fits = fits p xs;
@@ -93,6 +96,7 @@ denstream =
         divisor = divides p opens;
         needed = need-exact (prune-whole p opens);
         labels = groups-told (den-claim.after p xs) (potential-few p xs);
+        finds = den-finds.told (den-claim.after p xs) (potential-few p xs);
         holdings = den-fresh.from-fresh p xs;
         figures = den-figures.figures p xs;
       };

@@ -9,6 +9,7 @@ use lib.IntN.{ℤ, pos, negsuc}
 use lib.ListN.{length}
 use lib.Ieee.{Float, le}
 use Rattle.lists.specs.Each.{Each}
+use Rattle.lists.specs.Retain.{retain}
 use Rattle.float.specs.Rounded.{_⊗_, one, whole}
 use Rattle.union_find.specs.Pairs.{Chain}
 use Rattle.model.specs.declared.micro.MicroId.{MicroId}
@@ -22,9 +23,10 @@ use Rattle.model.specs.DbState.{Settings, State, paramsOf}
 use Rattle.model.specs.DbInsert.{idOf, pairsOf, gainIn, absent, neighboursOf, joined}
 use Rattle.model.specs.DbCluster.{isStrong, isDense}
 use Rattle.model.specs.Dbstream.{dbstream, hasPlace, clusterOf}
-use Rattle.claims.specs.Lists.{At, In, Ascending}
+use Rattle.claims.specs.Lists.{At, In, PairBefore, Ascending}
 use Rattle.claims.specs.Clock.{Counts}
 use Rattle.claims.specs.Weighed.{Weighed, KeptBody}
+use Rattle.claims.specs.Finds.{FindsTold}
 use Rattle.claims.specs.Whole as whole
 
 -- ---- labels
@@ -112,7 +114,7 @@ Older m n = m .id .0 < n .id .0
 
 -- the links' order
 abbrev pub Before : Link → Link → Type 0
-Before l k = (l .lo .0 < k .lo .0) ⊎ ((l .lo .0 ≡ k .lo .0) × (l .hi .0 < k .hi .0))
+Before l k = PairBefore (l .lo .0, l .hi .0) (k .lo .0, k .hi .0)
 
 -- a is the creation number of a micro-cluster that is held
 abbrev pub Live : List DbMicro → ℕ → Type 0
@@ -175,6 +177,8 @@ pub record OneStream (p : Settings) (xs : List (List Float)) : Type 0 where
   -- t_gap is a whole number of ticks, from 1 to 2^32
   pub period : Period (2 ^ 32) (paramsOf p .«t_gap»)
   pub labels : LabelsTellFamilies (clusterOf (after p xs))
+  -- what that cluster joins and finds: a root for each strong micro-cluster
+  pub finds : FindsTold dbstream (after p xs) (length (retain (isStrong (after p xs)) (after p xs .held .micros)))
   pub holdings : FromFresh (acceptedIn (told p xs)) (after p xs)
   pub figures : Figures (acceptedIn (told p xs)) (after p xs)
   pub fits : Fits (after p xs)

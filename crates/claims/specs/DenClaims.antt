@@ -22,6 +22,7 @@ use Rattle.model.specs.DenCluster.{close, fadedWeights}
 use Rattle.model.specs.Denstream.{denstream, hasPlace, clusterOf}
 use Rattle.claims.specs.Clock.{Counts, Dated}
 use Rattle.claims.specs.Weighed.{KeptBody}
+use Rattle.claims.specs.Finds.{FindsTold}
 use Rattle.claims.specs.Whole as whole
 
 -- ---- labels
@@ -114,6 +115,8 @@ pub record OneStream (p : Settings) (xs : List (List Float)) : Type 0 where
       m ≤ clockMost →
       Exact (m - born .tick + period .ticks) (whole m ⊖ t0 ⊕ paramsOf p .tp)
   pub labels : LabelsTellGroups (clusterOf (after p xs))
+  -- what that cluster joins and finds: a root for each potential one
+  pub finds : FindsTold denstream (after p xs) (length (after p xs .held .potential))
   pub holdings : FromFresh (acceptedIn (told p xs)) (after p xs)
   pub figures : Figures (acceptedIn (told p xs)) (after p xs)
 

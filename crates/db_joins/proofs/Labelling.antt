@@ -6,34 +6,46 @@ use mathlib.Core.List.{List}
 use mathlib.Core.Bool.{Bool}
 use lib.IntN.{ℤ}
 use lib.Ieee.{Float}
-use lib.ListN.{length, take}
-use lib.Seq.{length-take-le}
+use lib.ListN.{length, take, length-take}
 use Rattle.lists.specs.Laws.Rest.{cut-take}
-use Rattle.union_find.specs.Forest.{rootsOf}
+use Rattle.union_find.specs.Forest.{rootsOf, rootsIn}
+use Rattle.union_find.specs.Steps.{findSteps}
+use Rattle.union_find.specs.Laws.Root.{sought-length}
 use Rattle.labels.specs.Label.{labelsOf, labelsIn}
-use Rattle.labels.specs.Laws.Label.{labels-first}
+use Rattle.labels.specs.Laws.Label.{labels-first, labels-sought}
 use Rattle.model.specs.declared.micro.MicroId.{MicroId}
 use Rattle.model.specs.declared.link.Link.{Link}
 use Rattle.model.specs.Limits.{microsMost}
 use Rattle.model.specs.Families.{labelsBy}
 use Rattle.db_joins.specs.Joined.{joinedBy}
 
--- of n places k are held; the pairs ps make the roots
-pub labelled :
-    (n k : ℕ) (ids : List MicroId) (strong : List Bool) (lambda t dense : Float) (ls : List Link)
-    (ps : List (ℕ × ℕ)) (roots : List ℕ) (r : List ℤ) →
-    k ≡ min n microsMost →
-    length ids ≡ microsMost →
-    length strong ≡ microsMost →
-    length roots ≡ microsMost →
-    length r ≡ microsMost →
-    ps ≡ joinedBy (take k ids) (take k strong) lambda t dense ls →
-    roots ≡ rootsOf k ps →
-    r ≡ labelsIn roots strong k →
-    take n r ≡ labelsBy (take n strong) (joinedBy (take n ids) (take n strong) lambda t dense ls)
-unfolding labelsBy
-labelled n k ids strong lambda t dense ls ps roots r cut li ls′ lr l eps er e =
-    sym (cut-take k n microsMost r cut l) ∙ ap (take k) e ∙ labels-first roots strong k (omega arith) ls′ lr
-    ∙ ap (labelsOf (take k strong)) (er ∙ ap₂ rootsOf (sym (length-take-le k strong (omega (arith, cut, ls′)))) eps)
-    ∙ ap₂ (λ (bs : List Bool) (is : List MicroId). labelsOf bs (rootsOf (length bs) (joinedBy is bs lambda t dense ls)))
-    (cut-take k n microsMost strong cut ls′) (cut-take k n microsMost ids cut li)
+-- of n places k are held, and the pairs ps are joined
+module _
+    (n k : ℕ) (ids : List MicroId) (strong : List Bool) (lambda t dense : Float) (ls : List Link) (ps : List (ℕ × ℕ))
+    (cut : k ≡ min n microsMost) (li : length ids ≡ microsMost) (lb : length strong ≡ microsMost)
+    (eps : ps ≡ joinedBy (take k ids) (take k strong) lambda t dense ls) where
+  strong-are : take k strong ≡ take n strong
+  strong-are = cut-take k n microsMost strong cut lb
+
+  pairs-are : ps ≡ joinedBy (take n ids) (take n strong) lambda t dense ls
+  pairs-are =
+      eps ∙ ap₂ (λ (is : List MicroId) (bs : List Bool). joinedBy is bs lambda t dense ls) (cut-take k n microsMost ids cut li) strong-are
+
+  -- what f says of the finds
+  pub worked :
+      (f : List ℕ → ℕ) (x : ℕ) → x ≡ f (findSteps (take k strong) ps) →
+      x ≡ f (findSteps (take n strong) (joinedBy (take n ids) (take n strong) lambda t dense ls))
+  worked f x e = e ∙ ap₂ (λ (bs : List Bool) (es : List (ℕ × ℕ)). f (findSteps bs es)) strong-are pairs-are
+
+  pub labelled :
+      (roots : List ℕ) (r : List ℤ) →
+      length r ≡ microsMost →
+      roots ≡ rootsIn (take k strong) ps →
+      r ≡ labelsIn roots strong k →
+      take n r ≡ labelsBy (take n strong) (joinedBy (take n ids) (take n strong) lambda t dense ls)
+  unfolding labelsBy
+  labelled roots r l er e =
+      sym (cut-take k n microsMost r cut l) ∙ ap (take k) e ∙ labels-first roots strong k (omega arith) lb (ap length er ∙ sought-length (take k strong) ps)
+      ∙ ap (labelsOf (take k strong)) er
+      ∙ labels-sought (take k strong) (take k strong) ps (omega (arith, cut, length-take k strong)) (λ i h. h)
+      ∙ ap₂ (λ (bs : List Bool) (es : List (ℕ × ℕ)). labelsOf bs (rootsOf (length bs) es)) strong-are pairs-are

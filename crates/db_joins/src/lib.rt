@@ -1,4 +1,5 @@
 // The places of strong micro-clusters that dense links join, and the labels that this gives.
+use labels::Labelled;
 use model::LINKS;
 use model::Link;
 use model::MICROS;
@@ -7,8 +8,10 @@ ghost use mathlib.Core.Path.{_≡_};
 ghost use mathlib.Core.Bool.{false, _&&_};
 ghost use Prim.Native.Nat.{_≤_};
 ghost use lib.Ieee.{le};
-ghost use lib.ListN.{take, getD};
+ghost use lib.ListN.{length, take, getD};
+ghost use Rattle.lists.specs.Total.{total};
 ghost use Rattle.union_find.specs.Pairs.{pairsOf};
+ghost use Rattle.union_find.specs.Steps.{findSteps};
 ghost use Rattle.model.specs.Limits.{microsMost, linksMost};
 ghost use Rattle.model.specs.Families.{labelsBy};
 ghost use Rattle.model.specs.DbInsert.{fadedLink};
@@ -103,7 +106,7 @@ fn joined(
     Pairs { a, b, count: k }
 }
 
-// The labels of the first n: by first member where strong, −1 elsewhere.
+// The labels of the first n: by first member where strong, −1 elsewhere. Roots are sought for the strong ones.
 pub fn labels_of(
     links: [Link; LINKS],
     count: usize,
@@ -113,14 +116,21 @@ pub fn labels_of(
     lambda: f64,
     t: f64,
     dense: f64,
-) -> [i64; MICROS]
-    ensures { λ r. ⌜ take n r ≡ labelsBy (take n strong) (joinedBy (take n ids) (take n strong) lambda t dense (take count links)) ⌝ }
+) -> Labelled
+    ensures { λ r. ⌜ take n (r .labels) ≡ labelsBy (take n strong) (joinedBy (take n ids) (take n strong) lambda t dense (take count links)) ⌝ }
+    ensures finds { λ r. ⌜ r .finds ≡ length (findSteps (take n strong) (joinedBy (take n ids) (take n strong) lambda t dense (take count links))) ⌝ }
+    ensures steps { λ r. ⌜ r .steps ≡ total (findSteps (take n strong) (joinedBy (take n ids) (take n strong) lambda t dense (take count links))) ⌝ }
 {
     let held = lists::cut(n, MICROS);
     let pairs = joined(links, count, ids, strong, held, lambda, t, dense);
     let a = pairs.a;
     let b = pairs.b;
     let k = pairs.count;
-    let roots = union_find::roots(&a[..k], &b[..k], held);
-    labels::labels(roots, strong, held)
+    let rooted = union_find::roots(&a[..k], &b[..k], strong, held);
+    let roots = rooted.roots;
+    Labelled {
+        labels: labels::labels(roots, strong, held),
+        finds: rooted.finds,
+        steps: rooted.steps,
+    }
 }

@@ -1,4 +1,5 @@
 -- The labels of the arrays, seen through the view. Assumes nothing.
+use Prim.Native.Nat.{ℕ}
 use mathlib.Core.Path.{_≡_, sym, ap, ap₂, _∙_}
 use mathlib.Core.List.{List, map, map-map}
 use mathlib.Core.Bool.{Bool}
@@ -6,12 +7,13 @@ use lib.IntN.{ℤ}
 use lib.Ieee.{Float}
 use lib.ListN.{take}
 use Rattle.float.specs.Rounded.{_⊗_}
+use Rattle.union_find.specs.Steps.{findSteps}
 use Rattle.model.specs.declared.micro.MicroId.{MicroId}
 use Rattle.model.specs.Families.{labelsBy}
 use Rattle.model.specs.DbInsert.{idOf}
-use Rattle.model.specs.Stream.{labelled}
-use Rattle.model.specs.DbCluster.{isStrong, strongOnes, labelsOf}
-use Rattle.model.specs.Dbstream.{clusterOf}
+use Rattle.model.specs.Stream.{labelled, findStepsOf}
+use Rattle.model.specs.DbCluster.{isStrong, strongOnes, joinsOf, labelsOf}
+use Rattle.model.specs.Dbstream.{dbstream, clusterOf}
 use Rattle.db_micro.specs.Held.{cutTo, reaches}
 use Rattle.db_joins.specs.Joined.{joinedBy}
 use Rattle.db_joins.specs.Laws.Joined.{joined-view}
@@ -27,20 +29,31 @@ module _
   abbrev dense : Float
   dense = s .params .settings .alpha ⊗ s .params .settings .«min_weight»
 
-  abbrev labelledBy : List Bool → List MicroId → List ℤ
-  labelledBy bs is = labelsBy bs (joinedBy is bs (s .params .settings .lambda) (s .t) dense (view s .held .links))
+  abbrev joinedIn : List Bool → List MicroId → List (ℕ × ℕ)
+  joinedIn bs is = joinedBy is bs (s .params .settings .lambda) (s .t) dense (view s .held .links)
 
-  strong-are : take (s .count) mask ≡ strongOnes (view s)
+  abbrev held : List Bool
+  held = take (s .count) mask
+
+  abbrev named : List MicroId
+  named = take (s .count) ids
+
+  strong-are : held ≡ strongOnes (view s)
   strong-are = emask ∙ sym (map-map (isStrong (view s)) (cutTo (dimOf s)) (take (s .count) (s .micros)))
 
-  ids-are : take (s .count) ids ≡ map idOf (view s .held .micros)
+  ids-are : named ≡ map idOf (view s .held .micros)
   ids-are = eids ∙ sym (map-map idOf (cutTo (dimOf s)) (take (s .count) (s .micros)))
 
-  labels-are : labelledBy (take (s .count) mask) (take (s .count) ids) ≡ labelsOf (view s)
-  unfolding labelsOf
-  labels-are = ap₂ labelledBy strong-are ids-are ∙ ap (labelsBy (strongOnes (view s))) (joined-view (view s) (view s .held .links))
+  joins-are : joinedIn held named ≡ joinsOf (view s) (view s .held .links)
+  joins-are = ap₂ joinedIn strong-are ids-are ∙ joined-view (view s) (view s .held .links)
 
-  pub clustered :
-      (labels : List ℤ) → take (s .count) labels ≡ labelledBy (take (s .count) mask) (take (s .count) ids) →
-      labelled (view s) (take (s .count) labels) ≡ clusterOf (view s)
+  labels-are : labelsBy held (joinedIn held named) ≡ labelsOf (view s)
+  unfolding labelsOf
+  labels-are = ap₂ labelsBy strong-are joins-are
+
+  pub clustered : (labels : List ℤ) → take (s .count) labels ≡ labelsBy held (joinedIn held named) → labelled (view s) (take (s .count) labels) ≡ clusterOf (view s)
   clustered labels e = ap (labelled (view s)) (e ∙ labels-are)
+
+  -- what f says of the finds
+  pub worked : (f : List ℕ → ℕ) (x : ℕ) → x ≡ f (findSteps held (joinedIn held named)) → x ≡ f (findStepsOf dbstream (view s))
+  worked f x e = e ∙ ap₂ (λ (bs : List Bool) (es : List (ℕ × ℕ)). f (findSteps bs es)) strong-are joins-are

@@ -1,9 +1,11 @@
--- DenStream's labels, of a list of potential micro-clusters. Definitions only.
+-- DenStream's labels, and the finds that they take, of a list of potential micro-clusters. Definitions only.
 use Prim.Native.Nat.{ℕ, _+_}
+use mathlib.Core.Bool.{true}
 use mathlib.Core.List.{List, [], _∷_, map}
 use lib.IntN.{ℤ}
 use lib.Ieee.{Float}
 use lib.ListN.{drop}
+use Rattle.union_find.specs.Steps.{findSteps}
 use Rattle.model.specs.declared.micro.DenMicro.{DenMicro}
 use Rattle.model.specs.Limits.{linksMost}
 use Rattle.model.specs.Families.{labelsBy, countedBy}
@@ -29,3 +31,8 @@ unfolding labelsBy countedBy pairsFrom
 labelsIn p t l =
     let pairs : List (ℕ × ℕ) = pairsFrom (p .eps2) 0 l in
     labelsBy (countedBy (p .settings .mu) (map (weightOf (p .settings .lambda) t) l) pairs) pairs
+
+-- `findStepsOf` of such a stream
+unfoldable pub findStepsIn : Params → List DenMicro → List ℕ
+unfolding pairsFrom
+findStepsIn p l = findSteps (map (λ (m : DenMicro). true) l) (pairsFrom (p .eps2) 0 l)

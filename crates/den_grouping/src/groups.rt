@@ -2,6 +2,7 @@
 use crate::pairs::PAIRS;
 use crate::pairs::close_pairs;
 use feature::MAX_DIM;
+use labels::Labelled;
 use model::DenMicro;
 use model::DenParams;
 use model::MICROS;
@@ -9,11 +10,12 @@ ghost use Prim.Native.Nat.{_≤_, _<_, min, ℕ};
 ghost use mathlib.Core.Path.{_≡_};
 ghost use mathlib.Core.List.{map};
 ghost use lib.Ieee.{le, nan};
-ghost use lib.ListN.{take, getD};
+ghost use lib.ListN.{length, take, getD};
+ghost use Rattle.lists.specs.Total.{total};
 ghost use Rattle.feature.specs.Feature.{maxDim};
 ghost use Rattle.model.specs.Limits.{microsMost};
 ghost use Rattle.den_pool.specs.Held.{seen};
-ghost use Rattle.den_grouping.specs.Group.{labelsIn};
+ghost use Rattle.den_grouping.specs.Group.{labelsIn, findStepsIn};
 
 // Which places' groups reach mu, by the sum at each place's root.
 fn reaching(roots: [usize; MICROS], sums: [f64; MICROS], n: usize, mu: f64) -> [bool; MICROS]
@@ -30,9 +32,11 @@ fn reaching(roots: [usize; MICROS], sums: [f64; MICROS], n: usize, mu: f64) -> [
     counts
 }
 
-// The labels of the first n at the clock t.
-pub fn group_labels(pool: [DenMicro; MICROS], n: usize, params: DenParams, t: f64) -> [i64; MICROS]
-    ensures { λ r. ⌜ take n r ≡ labelsIn params t (seen (min (params .settings .dim) maxDim) n pool) ⌝ }
+// The labels of the first n at the clock t. Roots are sought for all of them.
+pub fn group_labels(pool: [DenMicro; MICROS], n: usize, params: DenParams, t: f64) -> Labelled
+    ensures { λ r. ⌜ take n (r .labels) ≡ labelsIn params t (seen (min (params .settings .dim) maxDim) n pool) ⌝ }
+    ensures finds { λ r. ⌜ r .finds ≡ length (findStepsIn params (seen (min (params .settings .dim) maxDim) n pool)) ⌝ }
+    ensures steps { λ r. ⌜ r .steps ≡ total (findStepsIn params (seen (min (params .settings .dim) maxDim) n pool)) ⌝ }
 {
     let end = lists::cut(n, MICROS);
     let mut a = [0usize; PAIRS];
@@ -45,9 +49,14 @@ pub fn group_labels(pool: [DenMicro; MICROS], n: usize, params: DenParams, t: f6
         &mut a,
         &mut b,
     );
-    let roots = union_find::roots(&a[..k], &b[..k], end);
+    let rooted = union_find::roots(&a[..k], &b[..k], [true; MICROS], end);
+    let roots = rooted.roots;
     let weights = den_pool::faded_weights(pool, end, params.settings.lambda, t);
     let sums = labels::sums(roots, weights, end);
     let counts = reaching(roots, sums, end, params.settings.mu);
-    labels::labels(roots, counts, end)
+    Labelled {
+        labels: labels::labels(roots, counts, end),
+        finds: rooted.finds,
+        steps: rooted.steps,
+    }
 }

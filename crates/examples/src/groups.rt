@@ -21,7 +21,8 @@ pub fn three_zeros() {
         mu: 4.0,
     });
     let s = opened.stream;
-    let clustered = with_zero(with_zero(with_zero(s))).cluster();
+    let told = with_zero(with_zero(with_zero(s))).cluster();
+    let clustered = told.stream;
     let mut labels = [0i64; MICROS];
     den_readout::labels(clustered, &mut labels);
     io::print_decimal(STDOUT, clustered.potential_count() as u64);

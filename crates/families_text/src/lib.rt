@@ -13,7 +13,8 @@ ghost use Rattle.families_text.specs.Families.{clusterText, familiesText
 fn clustered_text(stream: DbStream) -> Text
     ensures { λ r. ⌜ textOf r ≡ clusterText (view stream) ⌝ }
 {
-    let clustered = stream.cluster();
+    let told = stream.cluster();
+    let clustered = told.stream;
     let n = clustered.micro_count();
     let micros = clustered.micros;
     let ids = db_micro::ids_of(micros, n);

@@ -8,6 +8,13 @@ ghost use lib.ListN.{take};
 ghost use Rattle.union_find.specs.Forest.{places};
 ghost use Rattle.labels.specs.Label.{placeIn, labelsIn};
 
+// Labels of places; the finds that were made for them, and the halving steps of all these.
+pub struct Labelled {
+    pub labels: [i64; PLACES],
+    pub finds: u64,
+    pub steps: u64,
+}
+
 // The place of v among the first `count` of `met`; `count` if it is none of them.
 fn place_in(met: [usize; PLACES], count: usize, v: usize) -> usize
     requires { ⌜ count ≤ places ⌝ }

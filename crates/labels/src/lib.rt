@@ -3,4 +3,5 @@ mod group;
 mod label;
 
 pub use group::sums;
+pub use label::Labelled;
 pub use label::labels;

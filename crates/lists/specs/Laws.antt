@@ -6,3 +6,4 @@ pub mod Maps
 pub mod Sizes
 pub mod Counted
 pub mod Each
+pub mod Total

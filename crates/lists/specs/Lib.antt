@@ -3,4 +3,5 @@ pub mod Retain
 pub mod Search
 pub mod Rest
 pub mod Each
+pub mod Total
 pub mod Laws

@@ -1,4 +1,5 @@
 -- Document 01: DBSTREAM, a kind of stream; its calls. Definitions only.
+use Prim.Native.Nat.{ℕ}
 use mathlib.Core.Bool.{Bool}
 use mathlib.Core.List.{List, [], map}
 use lib.IntN.{ℤ}
@@ -14,7 +15,7 @@ use Rattle.model.specs.ReadOut.{LabelsRead, Statistics}
 use Rattle.model.specs.Stream as stream
 use Rattle.model.specs.DbState.{Settings, Params, Holdings, State, paramsOf, zeros, questions}
 use Rattle.model.specs.DbInsert.{isAbsorbed, placed, nearestFor, cleanup}
-use Rattle.model.specs.DbCluster.{labelsOf}
+use Rattle.model.specs.DbCluster.{strongOnes, joinsOf, labelsOf}
 
 abbrev pub dbstream : stream.Kind Settings Params Holdings
 dbstream =
@@ -32,6 +33,8 @@ dbstream =
       period = λ p. p .«t_gap»;
       cleaned = cleanup;
       labelsOf = labelsOf;
+      pairsDue = λ s. joinsOf s (s .held .links);
+      sought = strongOnes;
       radius2 = λ p. p .settings .r ⊗ p .settings .r;
       lambda = λ p. p .settings .lambda;
       bodiesOf = λ h. map (λ (m : DbMicro). m .body) (h .micros);
@@ -60,6 +63,12 @@ insertOf = stream.insertOf dbstream
 
 abbrev pub clusterOf : State → State
 clusterOf = stream.clusterOf dbstream
+
+abbrev pub findsOf : State → ℕ
+findsOf = stream.findsOf dbstream
+
+abbrev pub stepsOf : State → ℕ
+stepsOf = stream.stepsOf dbstream
 
 abbrev pub predictOf : State → List Float → Said ℤ
 predictOf = stream.predictOf dbstream

@@ -1,6 +1,6 @@
 -- Document 01, Families: DenStream's groups and labels. Definitions only.
 use Prim.Native.Nat.{ℕ, _+_}
-use mathlib.Core.Bool.{Bool, cond}
+use mathlib.Core.Bool.{Bool, true, cond}
 use mathlib.Core.List.{List, [], _∷_, _++_, map}
 use lib.IntN.{ℤ}
 use lib.Ieee.{Float, binary64, le, ofBits}
@@ -28,6 +28,10 @@ pairsFrom eps2 i (m ∷ rest) = rowFrom eps2 i (m .body .cf .mean) (i + 1) rest 
 
 abbrev pub joinsOf : State → List (ℕ × ℕ)
 joinsOf s = pairsFrom (s .params .eps2) 0 (s .held .potential)
+
+-- Document 02, item 8: "then one for each strong micro-cluster (DenStream: each potential one)": all of them are sought
+abbrev pub potentialOnes : State → List Bool
+potentialOnes s = map (λ (m : DenMicro). true) (s .held .potential)
 
 -- the potential ones' weights, faded to the clock
 abbrev pub fadedWeights : State → List Float

@@ -1,5 +1,5 @@
 -- Document 01: DenStream, a kind of stream; its calls. Definitions only.
-use Prim.Native.Nat.{_+_}
+use Prim.Native.Nat.{ℕ, _+_}
 use mathlib.Core.Bool.{Bool}
 use mathlib.Core.List.{List, [], map}
 use lib.IntN.{ℤ}
@@ -14,7 +14,7 @@ use Rattle.model.specs.ReadOut.{LabelsRead, Statistics}
 use Rattle.model.specs.Stream as stream
 use Rattle.model.specs.DenState.{Settings, Params, Holdings, pooled, State, paramsOf, zeros, questions}
 use Rattle.model.specs.DenInsert.{isAbsorbed, placed, nearestFor, pruned}
-use Rattle.model.specs.DenCluster.{labelsOf}
+use Rattle.model.specs.DenCluster.{potentialOnes, joinsOf, labelsOf}
 
 abbrev pub denstream : stream.Kind Settings Params Holdings
 denstream =
@@ -32,6 +32,8 @@ denstream =
       period = λ p. p .tp;
       cleaned = pruned;
       labelsOf = labelsOf;
+      pairsDue = joinsOf;
+      sought = potentialOnes;
       radius2 = λ p. p .eps2;
       lambda = λ p. p .settings .lambda;
       bodiesOf = λ h. map (λ (m : DenMicro). m .body) (h .potential);
@@ -60,6 +62,12 @@ insertOf = stream.insertOf denstream
 
 abbrev pub clusterOf : State → State
 clusterOf = stream.clusterOf denstream
+
+abbrev pub findsOf : State → ℕ
+findsOf = stream.findsOf denstream
+
+abbrev pub stepsOf : State → ℕ
+stepsOf = stream.stepsOf denstream
 
 abbrev pub predictOf : State → List Float → Said ℤ
 predictOf = stream.predictOf denstream

@@ -7,6 +7,8 @@ use lib.IntN.{ℤ}
 use lib.Ieee.{Float}
 use lib.ListN.{length}
 use Rattle.float.specs.Rounded.{_⊕_, nought, one}
+use Rattle.lists.specs.Total.{total}
+use Rattle.union_find.specs.Steps.{findSteps}
 use Rattle.drift.specs.Monitor.{Monitor, newOf, observeOf}
 use Rattle.drift.specs.declared.Nearest.{Nearest}
 use Rattle.model.specs.declared.body.Body.{Body}
@@ -45,8 +47,10 @@ pub record Kind (S P H : Type 0) : Type 0 where
   -- the ticks between cleanups, and what a cleanup at t leaves
   pub period : P → Float
   pub cleaned : P → (t : Float) → H → H
-  -- families and read-outs
+  -- families and read-outs: the labels; the pairs of places that are joined, and those whose roots are sought
   pub labelsOf : State P H → List ℤ
+  pub pairsDue : State P H → List (ℕ × ℕ)
+  pub sought : State P H → List Bool
   pub radius2 : P → Float
   pub lambda : P → Float
   pub bodiesOf : H → List Body
@@ -108,6 +112,17 @@ module _ {S P H : Type 0} (k : Kind S P H) where
   -- ---- families and read-outs
   abbrev pub clusterOf : State P H → State P H
   clusterOf s = labelled s (k .labelsOf s)
+
+  -- Document 02, item 8: the halving steps of each find that a cluster makes, in order
+  abbrev pub findStepsOf : State P H → List ℕ
+  findStepsOf s = findSteps (k .sought s) (k .pairsDue s)
+
+  -- "Cluster returns the number of finds and the number of halving steps made."
+  abbrev pub findsOf : State P H → ℕ
+  findsOf s = length (findStepsOf s)
+
+  abbrev pub stepsOf : State P H → ℕ
+  stepsOf s = total (findStepsOf s)
 
   abbrev pub predictOf : State P H → List Float → Said ℤ
   predictOf s x = read.predictOf (k .dim (s .params)) (k .radius2 (s .params)) (k .bodiesOf (s .held)) (s .labels) x

@@ -18,7 +18,8 @@ const FIGURES: usize = 3;
 fn drawn(stream: DbStream) -> Text
     ensures { λ r. ⌜ textOf r ≡ take room (drawnOf (view stream)) ⌝ }
 {
-    let clustered = stream.cluster();
+    let told = stream.cluster();
+    let clustered = told.stream;
     let mut centres = [0.0; CENTRES];
     let mut weights = [0.0; MICROS];
     let mut radii = [0.0; MICROS];

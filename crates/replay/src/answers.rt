@@ -17,7 +17,7 @@ use model::Opening;
 use model::Prediction;
 use model::ReadOut;
 
-// An opening or an insert that is accepted, or a cluster.
+// An opening or an insert that is accepted.
 pub fn say_ok() {
     say(b"ok");
 }
@@ -54,6 +54,11 @@ pub fn say_insertion(answer: Insertion) {
         Insertion::ClockAtLimit => say_refused(8),
         Insertion::NoPlace => say_refused(9),
     }
+}
+
+// Operation 4: the finds that cluster made, and their halving steps.
+pub fn say_clustered(finds: u64, steps: u64) {
+    end(number(number(start(b"ok"), finds), steps));
 }
 
 // Operation 5: as many labels as were written.

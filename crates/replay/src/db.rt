@@ -54,6 +54,12 @@ fn insert(s: DbStream, r: Record) -> DbStream {
     after.stream
 }
 
+fn cluster(s: DbStream) -> DbStream {
+    let told = s.cluster();
+    answers::say_clustered(told.finds, told.steps);
+    told.stream
+}
+
 fn predict(s: DbStream, r: Record) {
     let xs = r.xs;
     let n = places(r.count, &xs);
@@ -169,10 +175,7 @@ pub fn act(s: DbStream, r: Record) -> DbStream {
     match op {
         1 => return opened(r),
         3 => return insert(s, r),
-        4 => {
-            answers::say_ok();
-            return s.cluster();
-        }
+        4 => return cluster(s),
         _ => read(s, r),
     }
     s

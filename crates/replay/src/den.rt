@@ -50,6 +50,12 @@ fn insert(s: DenStream, r: Record) -> DenStream {
     after.stream
 }
 
+fn cluster(s: DenStream) -> DenStream {
+    let told = s.cluster();
+    answers::say_clustered(told.finds, told.steps);
+    told.stream
+}
+
 fn predict(s: DenStream, r: Record) {
     let xs = r.xs;
     let n = places(r.count, &xs);
@@ -145,10 +151,7 @@ pub fn act(s: DenStream, r: Record) -> DenStream {
     match op {
         2 => return opened(r),
         3 => return insert(s, r),
-        4 => {
-            answers::say_ok();
-            return s.cluster();
-        }
+        4 => return cluster(s),
         _ => read(s, r),
     }
     s

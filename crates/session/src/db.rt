@@ -65,7 +65,8 @@ pub fn dbstream_session(
         return DbSession { number: 10, stream };
     }
     let run = inserts(stream, values, lengths, numbers);
-    let clustered = run.cluster();
+    let told = run.cluster();
+    let clustered = told.stream;
     DbSession {
         number: 0,
         stream: clustered,

@@ -65,7 +65,8 @@ pub fn denstream_session(
         return DenSession { number: 10, stream };
     }
     let run = inserts(stream, values, lengths, numbers);
-    let clustered = run.cluster();
+    let told = run.cluster();
+    let clustered = told.stream;
     DenSession {
         number: 0,
         stream: clustered,

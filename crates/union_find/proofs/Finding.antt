@@ -1,20 +1,24 @@
 -- Where the loop of `find` stands. Assumes nothing.
-use Prim.Native.Nat.{ℕ, zero, suc, _+_, _<_}
-use mathlib.Core.Path.{_≡_, refl, sym, _∙_}
+use Prim.Native.Nat.{ℕ, zero, suc, _+_, _<_, _≤_}
+use mathlib.Core.Path.{_≡_, refl, sym, ap, ap₂, _∙_, subst}
 use mathlib.Core.Logic.{_≢_, inl}
 use mathlib.Core.List.{List}
 use native.Mathlib.Omega.{arith}
+use native.Mathlib.Numerals.{add-one}
 use Rattle.union_find.specs.declared.forest.UnionFind.{UnionFind}
+use Rattle.union_find.specs.declared.forest.Reached.{Reached}
+use Rattle.union_find.specs.declared.forest.Joins.{Joins}
 use Rattle.union_find.specs.Forest.{places, up, halve, findFrom, findOf, linkOf, unionOf}
+use Rattle.union_find.specs.Steps.{unionSteps}
+use Rattle.union_find.specs.Inside.Joins.{joinsBy}
 use Rattle.union_find.specs.Laws.WellFormed.{halve-well}
 use Rattle.union_find.specs.Inside.WellFormed.{WellFormed, Ranked}
 use Rattle.union_find.specs.Laws.Find.{find-law, find-stop, find-on, Made, made-few, made-next, steps-less}
 
--- after some halving steps from p₀ and x the parents are p, and the find stands at `at`
-pub record Turn (p₀ : List ℕ) (x : ℕ) (p : List ℕ) (at : ℕ) : Type 0 where
+-- after so many halving steps from p₀ and x the parents are p, and the find stands at `at`
+pub record Turn (p₀ : List ℕ) (x : ℕ) (p : List ℕ) (at steps : ℕ) : Type 0 where
   pub rank : List ℕ
   pub left : ℕ
-  pub steps : ℕ
   pub fuel : left + steps ≡ places
   pub find : findFrom left p at steps ≡ findOf p₀ x
   pub well : WellFormed p rank
@@ -22,53 +26,73 @@ pub record Turn (p₀ : List ℕ) (x : ℕ) (p : List ℕ) (at : ℕ) : Type 0 w
   pub made : Made p rank at steps
 
 -- before the first step
-pub turn-start : (p : List ℕ) → Ranked p → (x : ℕ) → x < places → Turn p x p x
+pub turn-start : (p : List ℕ) → Ranked p → (x : ℕ) → x < places → Turn p x p x 0
 unfolding findOf
-turn-start p wf x hx = record { rank = wf .0; left = places; steps = 0; fuel = refl; find = refl; well = wf .1; low = hx; made = inl (omega arith) }
+turn-start p wf x hx = record { rank = wf .0; left = places; fuel = refl; find = refl; well = wf .1; low = hx; made = inl (omega arith) }
 
-module _ {p₀ : List ℕ} {x : ℕ} {p : List ℕ} {at : ℕ} (t : Turn p₀ x p at) where
+module _ {p₀ : List ℕ} {x : ℕ} {p : List ℕ} {at steps : ℕ} (t : Turn p₀ x p at steps) where
   pub turn-up : up p at < places
   turn-up = t .well .low at (t .low)
 
   -- a halving step more
-  pub turn-next : up p at ≢ at → Turn p₀ x (halve p at) (up p (up p at))
+  pub turn-next : up p at ≢ at → Turn p₀ x (halve p at) (up p (up p at)) (steps + 1)
   turn-next e = go (t .left) (t .fuel) (t .find)
     where
-      go : (k : ℕ) → k + t .steps ≡ places → findFrom k p at (t .steps) ≡ findOf p₀ x → Turn p₀ x (halve p at) (up p (up p at))
-      go zero f q = absurd (omega (arith, made-few p (t .rank) (t .well) at (t .steps) (t .low) (t .made)))
+      go : (k : ℕ) → k + steps ≡ places → findFrom k p at steps ≡ findOf p₀ x → Turn p₀ x (halve p at) (up p (up p at)) (steps + 1)
+      go zero f q = absurd (omega (arith, made-few p (t .rank) (t .well) at steps (t .low) (t .made)))
       go (suc k) f q =
           record {
             rank = t .rank;
             left = k;
-            steps = suc (t .steps);
             fuel = omega arith;
-            find = sym (find-on k p at (t .steps) e) ∙ q;
+            find = ap (λ (s : ℕ). findFrom k (halve p at) (up p (up p at)) s) (add-one steps) ∙ sym (find-on k p at steps e) ∙ q;
             well = halve-well p (t .rank) (t .well) at (t .low) e;
             low = t .well .low (up p at) turn-up;
-            made = made-next p (t .rank) (t .well) at (t .steps) (t .low) (t .made) e;
+            made = subst (Made (halve p at) (t .rank) (up p (up p at))) (sym (add-one steps)) (made-next p (t .rank) (t .well) at steps (t .low) (t .made) e);
           }
 
   -- at a root the find is done
-  pub turn-end : up p at ≡ at → findOf p₀ x ≡ record { parent = p; root = at; steps = t .steps }
-  turn-end e = sym (t .find) ∙ find-stop (t .left) p at (t .steps) e
+  pub turn-end : up p at ≡ at → findOf p₀ x ≡ record { parent = p; root = at; steps = steps }
+  turn-end e = sym (t .find) ∙ find-stop (t .left) p at steps e
+
+  -- the steps made are few
+  pub turn-few : steps ≤ 3
+  turn-few = made-few p (t .rank) (t .well) at steps (t .low) (t .made)
 
   -- each step leaves one less
   pub turn-less : up p at ≢ at → findOf (halve p at) (up p (up p at)) .steps < findOf p at .steps
   turn-less e = steps-less p (t .rank) (t .well) at (t .low) e
 
--- what a find gives back, y and the parents q
-module _ (p r : List ℕ) (wf : WellFormed p r) (x : ℕ) (hx : x < places) (y : ℕ) (q : List ℕ) (ey : y ≡ findOf p x .root) (eq : q ≡ findOf p x .parent) where
+-- what a find gives back: f and the parents q
+module _ (p r : List ℕ) (wf : WellFormed p r) (x : ℕ) (hx : x < places) (f : Reached) (q : List ℕ)
+    (e : (f .root ≡ findOf p x .root) × (q ≡ findOf p x .parent) × (f .steps ≡ findOf p x .steps)) where
   pub found-well : WellFormed q r
-  found-well = rw eq (find-law p r wf x hx .well)
+  found-well = rw (e .1) (find-law p r wf x hx .well)
 
   -- the root found is a place
-  pub found-low : y < places
-  found-low = rw ey (find-law p r wf x hx .low)
+  pub found-low : f .root < places
+  found-low = rw (e .0) (find-law p r wf x hx .low)
+
+  pub found-few : f .steps ≤ 3
+  found-few = rw (e .2) (find-law p r wf x hx .few)
 
 -- two finds and a link are a union
 pub unioned :
-    (u : UnionFind) (a b x y : ℕ) (p q : List ℕ) → x ≡ findOf (u .parent) a .root → p ≡ findOf (u .parent) a .parent → y ≡ findOf p b .root →
-    q ≡ findOf p b .parent
-    → linkOf (record { parent = q; rank = u .rank }) x y ≡ unionOf u a b
+    (u : UnionFind) (a b : ℕ) (x y : Reached) (p q : List ℕ) (v : UnionFind) →
+    (x .root ≡ findOf (u .parent) a .root) × (p ≡ findOf (u .parent) a .parent) × (x .steps ≡ findOf (u .parent) a .steps) →
+    (y .root ≡ findOf p b .root) × (q ≡ findOf p b .parent) × (y .steps ≡ findOf p b .steps) →
+    v ≡ linkOf (record { parent = q; rank = u .rank }) (x .root) (y .root) →
+    record { forest = v; finds = 2; steps = x .steps + y .steps } ≡ joinsBy (unionOf u a b) (unionSteps u a b)
 unfolding unionOf
-unioned u a b x y p q ex ep ey eq = rw (eq, ey, ex, ep)
+unioned u a b x y p q v ex ey ev =
+    ap₂ (λ (w : UnionFind) (k : ℕ). record { forest = w; finds = 2; steps = k }) forest steps
+  where
+    forest : v ≡ linkOf (record { parent = findOf (findOf (u .parent) a .parent) b .parent; rank = u .rank }) (findOf (u .parent) a .root)
+        (findOf (findOf (u .parent) a .parent) b .root)
+    forest = rw (ev, ey .1, ey .0, ex .0, ex .1)
+
+    second : y .steps ≡ findOf (findOf (u .parent) a .parent) b .steps
+    second = rw (ey .2, ex .1)
+
+    steps : x .steps + y .steps ≡ findOf (u .parent) a .steps + (findOf (findOf (u .parent) a .parent) b .steps + 0)
+    steps = omega (arith, ex .2, second)

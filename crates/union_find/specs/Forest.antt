@@ -1,9 +1,9 @@
 -- Document 01, Families: "`UnionFind` by rank with halving." Definitions only.
 use Prim.Native.Nat.{ℕ, zero, suc, _+_, min}
-use mathlib.Core.Bool.{_&&_, cond}
+use mathlib.Core.Bool.{Bool, false, _&&_, cond}
 use mathlib.Core.List.{List, [], _∷_, _++_}
 use lib.Dec.{eqb, ltb}
-use lib.ListN.{getD, set, replicate}
+use lib.ListN.{length, getD, set, replicate}
 use Rattle.union_find.specs.declared.forest.UnionFind.{UnionFind}
 
 -- how many places there are: one for each micro-cluster held
@@ -68,3 +68,7 @@ joinAll n u (e ∷ es) = joinAll n (joinOf n u e) es
 -- the root of every place, after the pairs of the first n were joined
 unfoldable pub rootsOf : (n : ℕ) → List (ℕ × ℕ) → List ℕ
 rootsOf n es = table places (λ i. findOf (joinAll (min n places) newOf es .parent) i .root)
+
+-- the roots of the places that are sought, 0 at every other; the list has so many places as are joined
+unfoldable pub rootsIn : (sought : List Bool) → List (ℕ × ℕ) → List ℕ
+rootsIn sought es = table places (λ i. cond (getD sought i false) (getD (rootsOf (length sought) es) i 0) 0)

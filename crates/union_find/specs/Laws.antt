@@ -5,4 +5,6 @@ pub mod Sum
 pub mod WellFormed
 pub mod Find
 pub mod Union
+pub mod Join
 pub mod Root
+pub mod Steps

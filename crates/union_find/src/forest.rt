@@ -1,16 +1,40 @@
-// `UnionFind` by rank with path halving, and the roots after a list of pairs was joined.
+// `UnionFind` by rank with path halving, the roots after a list of pairs was joined, and the work that finding them was.
 use crate::PLACES;
 use lists::cut;
 ghost use mathlib.Core.Path.{_≡_};
 ghost use Prim.Native.Nat.{_<_, _≤_};
+ghost use lib.ListN.{length, take};
+ghost use Rattle.lists.specs.Total.{total};
 ghost use Rattle.union_find.specs.Pairs.{pairsOf};
-ghost use Rattle.union_find.specs.Forest.{places, newOf, findOf, linkOf, unionOf, joinOf, joinAll, rootsOf};
+ghost use Rattle.union_find.specs.Forest.{places, newOf, findOf, linkOf, unionOf, joinOf, joinAll, rootsIn};
+ghost use Rattle.union_find.specs.Steps.{unionSteps, joinSteps, joinsSteps, findSteps};
 ghost use Rattle.union_find.specs.Inside.WellFormed.{Ranked, Sound};
+ghost use Rattle.union_find.specs.Inside.Joins.{joinsBy};
 
 // The parent of each place, a root being its own, and the ranks of the roots.
 struct UnionFind {
     parent: [usize; PLACES],
     rank: [u8; PLACES],
+}
+
+// A root, and the halving steps on the way to it.
+struct Reached {
+    root: usize,
+    steps: u64,
+}
+
+// A forest after joins, the finds that were made for them, and the halving steps of all these.
+struct Joins {
+    forest: UnionFind,
+    finds: u64,
+    steps: u64,
+}
+
+// The root of each place that was sought, 0 at every other; all finds that were made, and their halving steps.
+pub struct Rooted {
+    pub roots: [usize; PLACES],
+    pub finds: u64,
+    pub steps: u64,
 }
 
 impl UnionFind {
@@ -29,18 +53,23 @@ impl UnionFind {
     }
 
     // The root of x; each place met on the way up gets its grandparent for a parent.
-    fn find(parent: &mut [usize; PLACES], x: usize) -> usize
+    fn find(parent: &mut [usize; PLACES], x: usize) -> Reached
         requires { ⌜ (Ranked (now parent)) × (x < places) ⌝ }
-        ensures { λ r. ⌜ (r ≡ findOf (now (parent .entry)) x .root) × (now (parent .exit) ≡ findOf (now (parent .entry)) x .parent) ⌝ }
+        ensures { λ r. ⌜
+            (r .root ≡ findOf (now (parent .entry)) x .root) × (now (parent .exit) ≡ findOf (now (parent .entry)) x .parent)
+            × (r .steps ≡ findOf (now (parent .entry)) x .steps)
+            ⌝ }
     {
         let mut at = x;
+        let mut steps: u64 = 0;
         while parent[at] != at {
             let up = parent[at];
             let grand = parent[up];
             parent[at] = grand;
             at = grand;
+            steps += 1;
         }
-        at
+        Reached { root: at, steps }
     }
 
     // The roots x and y made one: the lower rank goes under the higher, and of equals y under x.
@@ -65,55 +94,89 @@ impl UnionFind {
     }
 
     // The classes of a and b made one.
-    fn union(mut self, a: usize, b: usize) -> Self
+    fn union(mut self, a: usize, b: usize) -> Joins
         requires { ⌜ (Sound self) × (a < places) × (b < places) ⌝ }
-        ensures { λ r. ⌜ r ≡ unionOf self a b ⌝ }
+        ensures { λ r. ⌜ r ≡ joinsBy (unionOf self a b) (unionSteps self a b) ⌝ }
     {
         let x = UnionFind::find(&mut self.parent, a);
         let y = UnionFind::find(&mut self.parent, b);
-        self.link(x, y)
+        Joins {
+            forest: self.link(x.root, y.root),
+            finds: 2,
+            steps: x.steps + y.steps,
+        }
     }
 
     // A pair with a place that is not below n joins nothing.
-    fn join(self, a: usize, b: usize, n: usize) -> Self
+    fn join(self, a: usize, b: usize, n: usize) -> Joins
         requires { ⌜ (Sound self) × (n ≤ places) ⌝ }
-        ensures { λ r. ⌜ r ≡ joinOf n self (a, b) ⌝ }
+        ensures { λ r. ⌜ r ≡ joinsBy (joinOf n self (a, b)) (joinSteps n self (a, b)) ⌝ }
     {
         if a < n {
             if b < n {
                 return self.union(a, b);
             }
         }
-        self
+        Joins {
+            forest: self,
+            finds: 0,
+            steps: 0,
+        }
     }
 }
 
-// The forest after the pairs of a and b were joined in order.
-fn joined(a: &[usize], b: &[usize], n: usize) -> UnionFind
+// The forest after the pairs of a and b were joined in order, chained already or not.
+fn joined(a: &[usize], b: &[usize], n: usize) -> Joins
     requires { ⌜ n ≤ places ⌝ }
-    ensures { λ r. ⌜ r ≡ joinAll n newOf (pairsOf (now (a .entry)) (now (b .entry))) ⌝ }
+    ensures { λ r. ⌜
+        r ≡ joinsBy (joinAll n newOf (pairsOf (now (a .entry)) (now (b .entry)))) (joinsSteps n newOf (pairsOf (now (a .entry)) (now (b .entry))))
+        ⌝ }
 {
     let end = cut(a.len(), b.len());
-    let mut uf = UnionFind::new();
+    let mut forest = UnionFind::new();
+    let mut finds: u64 = 0;
+    let mut steps: u64 = 0;
     let mut k: usize = 0;
     while k < end {
-        uf = uf.join(a[k], b[k], n);
+        let made = forest.join(a[k], b[k], n);
+        forest = made.forest;
+        finds += made.finds;
+        steps += made.steps;
         k += 1;
     }
-    uf
+    Joins {
+        forest,
+        finds,
+        steps,
+    }
 }
 
-// The root of every place, after the pairs (a[k], b[k]) of places below n were joined in order.
-pub fn roots(a: &[usize], b: &[usize], n: usize) -> [usize; PLACES]
-    ensures { λ r. ⌜ r ≡ rootsOf n (pairsOf (now (a .entry)) (now (b .entry))) ⌝ }
+// The roots of those of the first n places that are sought, after the pairs (a[k], b[k]) of these n were joined in order.
+pub fn roots(a: &[usize], b: &[usize], sought: [bool; PLACES], n: usize) -> Rooted
+    ensures { λ r. ⌜ r .roots ≡ rootsIn (take n sought) (pairsOf (now (a .entry)) (now (b .entry))) ⌝ }
+    ensures finds { λ r. ⌜ r .finds ≡ length (findSteps (take n sought) (pairsOf (now (a .entry)) (now (b .entry)))) ⌝ }
+    ensures steps { λ r. ⌜ r .steps ≡ total (findSteps (take n sought) (pairsOf (now (a .entry)) (now (b .entry)))) ⌝ }
 {
-    let uf = joined(a, b, cut(n, PLACES));
-    let mut parent = uf.parent;
+    let end = cut(n, PLACES);
+    let made = joined(a, b, end);
+    let forest = made.forest;
+    let mut parent = forest.parent;
+    let mut finds = made.finds;
+    let mut steps = made.steps;
     let mut roots = [0usize; PLACES];
     let mut i: usize = 0;
-    while i < PLACES {
-        roots[i] = UnionFind::find(&mut parent, i);
+    while i < end {
+        if sought[i] {
+            let found = UnionFind::find(&mut parent, i);
+            roots[i] = found.root;
+            finds += 1;
+            steps += found.steps;
+        }
         i += 1;
     }
-    roots
+    Rooted {
+        roots,
+        finds,
+        steps,
+    }
 }

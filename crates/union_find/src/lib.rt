@@ -1,6 +1,7 @@
 // Joined pairs of places, and the root of each place.
 mod forest;
 
+pub use forest::Rooted;
 pub use forest::roots;
 
 // How many places there are.

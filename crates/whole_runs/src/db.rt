@@ -16,7 +16,8 @@ fn clustered(stream: DbStream, rounds: u64) -> DbStream
     let mut s = stream;
     let mut left = rounds;
     while left > 0 {
-        s = s.cluster();
+        let told = s.cluster();
+        s = told.stream;
         left -= 1;
     }
     s

@@ -3,8 +3,9 @@ use mathlib.Core.Path.{_≡_, sym, _∙_}
 use native.Mathlib.Omega.{arith}
 use lib.ListN.{length, take, length-map}
 use lib.Seq.{length-take-le}
-use Rattle.model.specs.Limits.{linksMost}
-use Rattle.db_joins.proofs.Labelling.{labelled}
+use Rattle.model.specs.Limits.{microsMost, linksMost}
+use Rattle.lists.specs.Total.{total}
+use Rattle.db_joins.proofs.Labelling.{worked, labelled}
 use borrow.Author.Needs.{needs}
 use Rattle.db_joins.proofs.labels_of.Statement.{statement}
 use Rattle.db_joins.proofs.labels_of.Tie as tie
@@ -15,6 +16,15 @@ room-a c = sym (length-map (c .joined .result .a) _) ∙ c .joined .ok .1 .1 .0 
 
 room-b : (c : tie.After-joined) → length (c .joined .result .b) ≡ linksMost
 room-b c = sym (length-map (c .joined .result .b) _) ∙ c .joined .ok .1 .1 .1 .0 .1 .0 .1
+
+ids-size : (e : tie.Start) → length (e .args .ids) ≡ microsMost
+ids-size e = omega arith
+
+strong-size : (e : tie.Start) → length (e .args .strong) ≡ microsMost
+strong-size e = omega arith
+
+labels-size : (c : tie.After-labels) → length (c .labels .result) ≡ microsMost
+labels-size c = search needs
 
 array-share-prefix-a : tie.Need-array-share-prefix-a
 array-share-prefix-a c =
@@ -38,13 +48,21 @@ slice-aggregate-roots-2 c =
 
 returns : tie.Need-returns
 returns c =
-    let at-joined = c .before .before .before .before .before .before in
+    let at-roots = c .before .before in
+    let at-joined = at-roots .before .before .before .before .before in
     let at-cut = at-joined .before in
-    let a = at-cut .before .args in
+    let start = at-cut .before in
+    let a = start .args in
     let n = at-cut .cut in
-    labelled (a .n) (n .result) (a .ids) (a .strong) (a .lambda) (a .t) (a .dense) (take (a .count) (a .links)) _ (c .before .roots .result)
-    (c .labels .result) (n .ensures) (omega arith) (omega arith) (omega arith) (omega arith)
-    (at-joined .joined .ensures .0) (c .before .roots .ensures) (c .labels .ensures)
+    let found = at-roots .roots in
+    let ls = take (a .count) (a .links) in
+    let pairs = at-joined .joined .ensures .0 in
+    let work =
+    worked (a .n) (n .result) (a .ids) (a .strong) (a .lambda) (a .t) (a .dense) ls _ (n .ensures) (ids-size start) (strong-size start) pairs in (
+      labelled (a .n) (n .result) (a .ids) (a .strong) (a .lambda) (a .t) (a .dense) ls _ (n .ensures) (ids-size start) (strong-size start) pairs
+          (found .result .roots) (c .labels .result) (labels-size c) (found .ensures .0) (c .labels .ensures),
+      (work length (found .result .finds) (found .ensures .1 .0), work total (found .result .steps) (found .ensures .1 .1)),
+    )
 
 pub labels-of-spec : {M : Type 1} → statement M
 labels-of-spec =

@@ -35,6 +35,21 @@ unfolding sumFrom
 sum-none sum v [] = refl
 sum-none sum v (r ∷ rs) = refl
 
+-- a sum goes by the roots of the places that have weights alone
+pub sum-agree :
+    (sum : Float) (v : ℕ) (rs qs : List ℕ) (ws : List Float) →
+    length rs ≡ length qs →
+    ((i : ℕ) → i < length ws → getD rs i 0 ≡ getD qs i 0) →
+    sumFrom sum v rs ws ≡ sumFrom sum v qs ws
+unfolding sumFrom
+sum-agree sum v [] [] ws l h = refl
+sum-agree sum v [] (q ∷ qs) ws l h = absurd (omega arith)
+sum-agree sum v (r ∷ rs) [] ws l h = absurd (omega arith)
+sum-agree sum v (r ∷ rs) (q ∷ qs) [] l h = refl
+sum-agree sum v (r ∷ rs) (q ∷ qs) (w ∷ ws) l h =
+    sum-agree (cond (eqb r v) (add binary64 sum w) sum) v rs qs ws (omega arith) (λ i k. h (suc i) (omega arith))
+    ∙ ap (λ (x : ℕ). sumFrom (cond (eqb x v) (add binary64 sum w) sum) v qs ws) (h 0 (omega arith))
+
 -- where P holds of the places whose root is v
 module _ {P : ℕ → Type 0} (v : ℕ) (roots : List ℕ) (h : (k : ℕ) → k < length roots → P k ↔ (getD roots k 0 ≡ v)) where
   sum-is : {i : ℕ} {sum x : Float} {ws : List Float} → Summed P i sum ws x → i + length ws ≤ length roots → x ≡ sumFrom sum v (drop i roots) ws

@@ -7,12 +7,12 @@ use mathlib.Core.List.{List, [], _∷_, _++_, append-nil, append-assoc}
 use native.Mathlib.Omega.{arith}
 use native.Mathlib.Decide.{ℕ-discrete, decLt}
 use lib.IntN.{ℤ, pos, negsuc}
-use lib.ListN.{length, take, getD, replicate, length-append}
+use lib.ListN.{length, take, getD, replicate, length-append, List·getD-eq-default}
 use lib.Seq.{take-at, length-take-le}
 use borrow.Author.Tests.{eq-eqb, ne-eqb, lt-ltb, le-ltb}
 use Rattle.union_find.specs.Pairs.{Joined, Chain}
-use Rattle.union_find.specs.Forest.{places, rootsOf}
-use Rattle.union_find.specs.Laws.Root.{RootsTell, roots-tell}
+use Rattle.union_find.specs.Forest.{places, rootsOf, rootsIn}
+use Rattle.union_find.specs.Laws.Root.{RootsTell, roots-tell, sought-length, sought-root}
 use Rattle.labels.specs.Label.{placeIn, meet, labelsFrom, labelsOf, labelsIn}
 
 -- ---- the place of a root among the roots met
@@ -246,6 +246,42 @@ labels-tell n hn es mask size =
         in-at i hi (w .0) .1
         ∙ ap (λ (v : ℕ). pos (placeIn v (allMet [] mask roots))) (tell .equal i j (omega arith) (omega arith) .1 (w .2))
         ∙ sym (in-at j hj (w .1) .1))
+
+-- labels go by the roots of the places inside alone
+pub labels-agree :
+    (us : List ℕ) (bs : List Bool) (rs qs : List ℕ) →
+    length rs ≡ length qs →
+    ((i : ℕ) → Inside bs i → getD rs i 0 ≡ getD qs i 0) →
+    labelsFrom us bs rs ≡ labelsFrom us bs qs
+unfolding labelsFrom
+labels-agree us [] rs qs l h = refl
+labels-agree us (b ∷ bs) [] [] l h = refl
+labels-agree us (b ∷ bs) [] (q ∷ qs) l h = absurd (omega arith)
+labels-agree us (b ∷ bs) (r ∷ rs) [] l h = absurd (omega arith)
+labels-agree us (b ∷ bs) (r ∷ rs) (q ∷ qs) l h = go b (h 0) (λ met. labels-agree met bs rs qs (omega arith) (λ i e. h (suc i) e))
+  where
+    labelled : Bool → ℕ → List ℕ → List ℤ
+    labelled t v vs = cond t (pos (placeIn v us)) (negsuc 0) ∷ labelsFrom (cond t (meet us v) us) bs vs
+
+    go : (t : Bool) → (t ≡ true → r ≡ q) → ((met : List ℕ) → labelsFrom met bs rs ≡ labelsFrom met bs qs) → labelled t r rs ≡ labelled t q qs
+    go true e later = ap (λ (v : ℕ). labelled true v rs) (e refl) ∙ ap (λ (ls : List ℤ). pos (placeIn q us) ∷ ls) (later (meet us q))
+    go false e later = ap (λ (ls : List ℤ). negsuc 0 ∷ ls) (later us)
+
+-- so it is enough to seek these
+pub labels-sought :
+    (sought mask : List Bool) (es : List (ℕ × ℕ)) →
+    length sought ≤ places →
+    ((i : ℕ) → Inside mask i → Inside sought i) →
+    labelsOf mask (rootsIn sought es) ≡ labelsOf mask (rootsOf (length sought) es)
+unfolding labelsOf
+labels-sought sought mask es few h =
+    labels-agree [] mask (rootsIn sought es) (rootsOf (length sought) es) (sought-length sought es ∙ sym (roots-tell (length sought) few es .count))
+    (λ i e. sought-root sought es i (below i (h i e)) (h i e))
+  where
+    below : (i : ℕ) → Inside sought i → i < places
+    below i e =
+        by-cases (decLt i (length sought)) (λ l. omega arith)
+        (λ l. absurd (true≢false (sym e ∙ List·getD-eq-default sought false {n = i} (omega arith))))
 
 -- of the array that `labels` gives, the first n are these
 pub labels-first :

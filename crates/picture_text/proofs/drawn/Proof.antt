@@ -19,7 +19,7 @@ returns c =
     let at-drift = at-micro-count .before in
     let at-labels2 = at-drift .before .before in
     let at-micro-stats = at-labels2 .before .before .before .before .before in
-    let at-cluster = at-micro-stats .before .before .before .before in
+    let at-cluster = at-micro-stats .before .before .before .before .before in
     let start = at-cluster .before in
     let s = start .args .stream in
     let u = at-cluster .cluster in
@@ -29,7 +29,7 @@ returns c =
     let n = at-micro-count .«micro-count» in
     let figures = statisticsTold (f .result) (f .last .1 .0) (f .last .1 .1 .0) (f .last .1 .1 .1 .0) in
     let labels = labelsTold (l .result) (l .last .1 .0) in
-    let page = drawing (view s) (view (u .result)) (n .result) figures labels (d .result) (u .ensures) (n .ensures) (f .ensures) (l .ensures) (d .ensures) in
+    let page = drawing (view s) (view (u .result .stream)) (n .result) figures labels (d .result) (u .ensures .0) (n .ensures) (f .ensures) (l .ensures) (d .ensures) in
     worded page (c .drawn .ensures) .is
     ∙ ap (λ (t : List ℕ). take room (t ++ drawnOf (view s))) (c .before .blank .ensures .0)
 

@@ -1,34 +1,22 @@
 -- Equal roots are chains of joined pairs. Assumes nothing.
 use Prim.Native.Nat.{ℕ, _<_, _≤_, min}
-use mathlib.Core.Path.{_≡_, sym, _∙_, subst}
+use mathlib.Core.Path.{_≡_, sym, _∙_, ap, subst}
 use mathlib.Core.Logic.{_↔_, _⊎_, inl, inr, ⊎-elim, by-cases}
+use mathlib.Core.Bool.{Bool, true, false, cond}
 use mathlib.Core.List.{List, [], _∷_}
 use native.Mathlib.Omega.{arith}
 use native.Mathlib.Decide.{decLt}
 use lib.ListN.{length, getD}
-use borrow.Author.Tests.{lt-ltb, le-ltb}
 use Rattle.union_find.specs.declared.forest.UnionFind.{UnionFind}
 use Rattle.union_find.specs.Pairs.{Joined, Chain}
 use Rattle.union_find.specs.Laws.Chain.{chain-more}
 use Rattle.union_find.specs.Laws.Merging.{Also, Within, Kernel, kernel-start, kernel-more}
-use Rattle.union_find.specs.Forest.{places, table, newOf, findOf, unionOf, joinOf, joinAll, rootsOf}
+use Rattle.union_find.specs.Forest.{places, table, newOf, findOf, unionOf, joinOf, joinAll, rootsOf, rootsIn}
 use Rattle.union_find.specs.Laws.WellFormed.{rootOf}
 use Rattle.union_find.specs.Inside.WellFormed.{Sound}
 use Rattle.union_find.specs.Laws.Find.{find-law}
 use Rattle.union_find.specs.Laws.Union.{Joins, union-law, table-length, table-at, new-law, new-root}
-
--- the two ways of a join
-module _ (n : ℕ) (u : UnionFind) (e : ℕ × ℕ) where
-  pub join-in : e .0 < n → e .1 < n → joinOf n u e ≡ unionOf u (e .0) (e .1)
-  unfolding joinOf
-  join-in ha hb = simp (lt-ltb (e .0) n ha, lt-ltb (e .1) n hb)
-
-  -- a pair with a place past n joins nothing
-  pub join-out : (e .0 < n → e .1 < n → ⊥) → joinOf n u e ≡ u
-  unfolding joinOf
-  join-out h =
-      by-cases (decLt (e .0) n) (λ ha. simp (lt-ltb (e .0) n ha, le-ltb (e .1) n (by-cases (decLt (e .1) n) (λ hb. absurd (h ha hb)) (λ hb. omega arith))))
-      (λ ha. simp (le-ltb (e .0) n (omega arith)))
+use Rattle.union_find.specs.Laws.Join.{join-in, join-out}
 
 kernel-same : {n : ℕ} {f : ℕ → ℕ} {R S : ℕ → ℕ → Type 0} → ((i j : ℕ) → R i j → S i j) → ((i j : ℕ) → S i j → R i j) → Kernel n f R → Kernel n f S
 kernel-same to from k i j hi hj = ((λ e. chain-more to (k i j hi hj .0 e)), (λ c. k i j hi hj .1 (chain-more from c)))
@@ -107,6 +95,17 @@ pub record RootsTell (n : ℕ) (es : List (ℕ × ℕ)) (roots : List ℕ) : Typ
   -- two roots are equal exactly when a chain of joined pairs leads from the one place to the other
   pub equal : (i j : ℕ) → i < places → j < places → (getD roots i 0 ≡ getD roots j 0) ↔ Chain (Joined n es) i j
 
+-- a root after the joins, in the forest that they make
+pub root-at : (n : ℕ) (es : List (ℕ × ℕ)) (i : ℕ) → i < places → getD (rootsOf n es) i 0 ≡ rootOf (joinAll (min n places) newOf es .parent) i
+unfolding rootsOf
+root-at n es i hi = table-at places (λ j. findOf (u .parent) j .root) 0 i hi ∙ find-law (u .parent) (u .rank) sound i hi .is-root
+  where
+    u : UnionFind
+    u = joinAll (min n places) newOf es
+
+    sound : Sound u
+    sound = forest-tells (min n places) (omega arith) es .sound
+
 -- the roots tell which places are chained
 pub roots-tell : (n : ℕ) → n ≤ places → (es : List (ℕ × ℕ)) → RootsTell n es (rootsOf n es)
 unfolding rootsOf
@@ -116,7 +115,7 @@ roots-tell n hn es =
       low = λ i hi. subst (λ (x : ℕ). x < places) (sym (table-at places root 0 i hi)) (find-law (u .parent) (u .rank) (t .sound) i hi .low);
       equal = λ i j hi hj.
           let k = t .kernel i j hi hj in
-          ((λ e. k .0 (sym (is i hi) ∙ e ∙ is j hj)), (λ c. is i hi ∙ k .1 c ∙ sym (is j hj)));
+          ((λ e. k .0 (sym (root-at n es i hi) ∙ e ∙ root-at n es j hj)), (λ c. root-at n es i hi ∙ k .1 c ∙ sym (root-at n es j hj)));
     }
   where
     u : UnionFind
@@ -128,5 +127,27 @@ roots-tell n hn es =
     t : Tells (Joined n es) u
     t = subst (λ (m : ℕ). Tells (Joined n es) (joinAll m newOf es)) (omega arith) (forest-tells n hn es)
 
-    is : (i : ℕ) → i < places → getD (table places root) i 0 ≡ rootOf (u .parent) i
-    is i hi = table-at places root 0 i hi ∙ find-law (u .parent) (u .rank) (t .sound) i hi .is-root
+-- of the roots that are sought
+pub sought-length : (sought : List Bool) (es : List (ℕ × ℕ)) → length (rootsIn sought es) ≡ places
+unfolding rootsIn
+sought-length sought es = table-length places (λ i. cond (getD sought i false) (getD (rootsOf (length sought) es) i 0) 0)
+
+pub sought-at :
+    (sought : List Bool) (es : List (ℕ × ℕ)) (i : ℕ) → i < places →
+    getD (rootsIn sought es) i 0 ≡ cond (getD sought i false) (getD (rootsOf (length sought) es) i 0) 0
+unfolding rootsIn
+sought-at sought es i hi = table-at places (λ j. cond (getD sought j false) (getD (rootsOf (length sought) es) j 0) 0) 0 i hi
+
+-- a root that is sought is that of its place
+pub sought-root :
+    (sought : List Bool) (es : List (ℕ × ℕ)) (i : ℕ) → i < places → getD sought i false ≡ true →
+    getD (rootsIn sought es) i 0 ≡ getD (rootsOf (length sought) es) i 0
+sought-root sought es i hi b = sought-at sought es i hi ∙ ap (λ (t : Bool). cond t (getD (rootsOf (length sought) es) i 0) 0) b
+
+-- and all of them are places
+pub sought-low : (sought : List Bool) → length sought ≤ places → (es : List (ℕ × ℕ)) (i : ℕ) → i < places → getD (rootsIn sought es) i 0 < places
+sought-low sought h es i hi = subst (λ (r : ℕ). r < places) (sym (sought-at sought es i hi)) (go (getD sought i false))
+  where
+    go : (b : Bool) → cond b (getD (rootsOf (length sought) es) i 0) 0 < places
+    go true = roots-tell (length sought) h es .low i hi
+    go false = omega arith

@@ -20,8 +20,9 @@ loop-holds c = refl
 
 loop-again : tie.Need-loop-again Inv-loop μ-loop
 loop-again c =
-    let l = c .before .before .loop in
-    iterate-next clusterOf (l .left) (view (l .s)) _ (omega (arith, c .before .loop-test .taken)) (c .cluster .ensures) (l .inv)
+    let at-cluster = c .before in
+    let l = at-cluster .before .before .loop in
+    iterate-next clusterOf (l .left) (view (l .s)) _ (omega (arith, at-cluster .before .loop-test .taken)) (at-cluster .cluster .ensures .0) (l .inv)
 
 returns : tie.Need-returns Inv-loop μ-loop
 returns c = let l = c .before .loop in iterate-end clusterOf (l .left) (view (l .s)) (omega (arith, c .loop-test .left)) (l .inv)

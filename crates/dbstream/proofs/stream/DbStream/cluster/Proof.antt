@@ -1,18 +1,25 @@
 -- `DbStream::cluster` meets its contract. Assumes nothing.
-use Rattle.dbstream.proofs.Labels.{clustered}
+use lib.ListN.{length}
+use Rattle.lists.specs.Total.{total}
+use Rattle.dbstream.proofs.Labels.{clustered, worked}
 use borrow.Author.Needs.{needs}
 use Rattle.dbstream.proofs.stream.DbStream.cluster.Statement.{statement}
 use Rattle.dbstream.proofs.stream.DbStream.cluster.Tie as tie
 
 returns : tie.Need-returns
 returns c =
-    let at-ids-of = c .before .before .before in
+    let at-labels-of = c .before in
+    let at-ids-of = at-labels-of .before .before .before in
     let at-strong-ones = at-ids-of .before in
     let start = at-strong-ones .before .before .before in
     let s = start .args .self in
     let strong = at-strong-ones .strong-ones in
     let ids = at-ids-of .ids-of in
-    clustered s (strong .result) (strong .ensures) (ids .result) (ids .ensures) (c .labels-of .result) (c .labels-of .ensures)
+    let told = at-labels-of .labels-of in
+    let work = worked s (strong .result) (strong .ensures) (ids .result) (ids .ensures) in (
+      clustered s (strong .result) (strong .ensures) (ids .result) (ids .ensures) (told .result .labels) (told .ensures .0),
+      (work length (told .result .finds) (told .ensures .1 .0), work total (told .result .steps) (told .ensures .1 .1)),
+    )
 
 pub cluster-spec : {M : Type 1} → statement M
 cluster-spec =

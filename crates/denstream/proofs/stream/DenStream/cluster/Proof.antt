@@ -1,6 +1,8 @@
 -- `DenStream::cluster` meets its contract. Assumes nothing.
 use borrow.Author.Needs.{needs}
-use Rattle.denstream.proofs.Labels.{clustered}
+use lib.ListN.{length}
+use Rattle.lists.specs.Total.{total}
+use Rattle.denstream.proofs.Labels.{clustered, worked}
 use Rattle.denstream.proofs.stream.DenStream.cluster.Statement.{statement}
 use Rattle.denstream.proofs.stream.DenStream.cluster.Tie as tie
 use Rattle.denstream.specs.View.{heldIn}
@@ -8,9 +10,14 @@ use Rattle.denstream.specs.View.{heldIn}
 returns : tie.Need-returns
 unfolding heldIn
 returns c =
-    let s = c .before .before .before .before .args .self in
-    let n = c .before .potential-held in
-    clustered s (n .result) (n .ensures) (c .group-labels .result) (c .group-labels .ensures)
+    let told = c .before .group-labels in
+    let at-potential-held = c .before .before in
+    let s = at-potential-held .before .before .before .args .self in
+    let n = at-potential-held .potential-held in
+    let work = worked s (n .result) (n .ensures) in (
+      clustered s (n .result) (n .ensures) (told .result .labels) (told .ensures .0),
+      (work length (told .result .finds) (told .ensures .1 .0), work total (told .result .steps) (told .ensures .1 .1)),
+    )
 
 pub cluster-spec : {M : Type 1} → statement M
 cluster-spec = tie.close (tie.spec (λ c κs. search needs) (λ c κs. search needs) returns)

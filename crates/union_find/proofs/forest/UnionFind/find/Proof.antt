@@ -4,15 +4,15 @@ use mathlib.Core.Path.{sym, ap}
 use native.Mathlib.Omega.{arith}
 use borrow.Author.Needs.{needs}
 use Rattle.union_find.specs.Forest.{Found, findOf}
-use Rattle.union_find.proofs.Finding.{Turn, turn-start, turn-up, turn-next, turn-end, turn-less}
+use Rattle.union_find.proofs.Finding.{Turn, turn-start, turn-up, turn-next, turn-end, turn-less, turn-few}
 use Rattle.union_find.proofs.forest.UnionFind.find.Statement.{statement}
 use Rattle.union_find.proofs.forest.UnionFind.find.Tie as tie
 
 abbrev Inv-loop : tie.InvT-loop
-Inv-loop parent₀ x at₀ parent at = Turn parent₀ x parent at
+Inv-loop parent₀ x at₀ steps₀ parent at steps = Turn parent₀ x parent at steps
 
 abbrev μ-loop : tie.MeasureT-loop
-μ-loop parent₀ x at₀ parent at = findOf parent at .steps
+μ-loop parent₀ x at₀ steps₀ parent at steps = findOf parent at .steps
 
 loop-holds : tie.Need-loop-holds Inv-loop μ-loop
 loop-holds c = turn-start (c .args .parent .now) (c .pre .0) (c .args .x) (c .pre .1)
@@ -41,6 +41,9 @@ mul-parent c = search needs
 element-write-parent : tie.Need-element-write-parent Inv-loop μ-loop
 element-write-parent c = search needs
 
+add-steps : tie.Need-add-steps Inv-loop μ-loop
+add-steps c = let at-loop = c .before .before .before .before in omega (arith, turn-few (at-loop .loop .inv))
+
 loop-less : tie.Need-loop-less Inv-loop μ-loop
 loop-less c =
     let at-if1 = c .before .before in
@@ -56,10 +59,10 @@ loop-again c =
 returns : tie.Need-returns Inv-loop μ-loop
 returns c =
     let e = turn-end (c .before .before .loop .inv) (c .if1 .left) in
-    (sym (ap (λ (f : Found). f .root) e), sym (ap (λ (f : Found). f .parent) e))
+    (sym (ap (λ (f : Found). f .root) e), sym (ap (λ (f : Found). f .parent) e), sym (ap (λ (f : Found). f .steps) e))
 
 pub find-spec : {M : Type 1} → statement M
 find-spec =
     tie.close
     (tie.spec Inv-loop μ-loop loop-holds mul-if1 element-copy-out-if1 mul-up element-copy-out-up mul-grand element-copy-out-grand mul-parent
-    element-write-parent loop-less loop-again returns)
+    element-write-parent add-steps loop-less loop-again returns)

@@ -1,0 +1,11 @@
+-- What joins give back. Definition only.
+use mathlib.Core.List.{List}
+use Prim.Native.Nat.{ℕ}
+use lib.ListN.{length}
+use Rattle.lists.specs.Total.{total}
+use Rattle.union_find.specs.declared.forest.UnionFind.{UnionFind}
+use Rattle.union_find.specs.declared.forest.Joins.{Joins}
+
+-- the forest, and how many finds were made with how many steps: l has the steps of each
+abbrev pub joinsBy : UnionFind → (l : List ℕ) → Joins
+joinsBy u l = record { forest = u; finds = length l; steps = total l }
