@@ -1,5 +1,5 @@
 -- DBSTREAM's pairs due ascend by place, the lower place first, wherever creation numbers and links ascend.
-use Prim.Native.Nat.{ℕ, suc, _<_, _≤_}
+use Prim.Native.Nat.{ℕ, _<_, _≤_}
 use mathlib.Core.Path.{_≡_, refl, sym, ap, _∙_, subst}
 use mathlib.Core.Logic.{_≢_, inl, inr, ⊎-elim, by-cases}
 use mathlib.Core.Bool.{Bool, true, false, cond}
@@ -18,7 +18,7 @@ use Rattle.model.specs.Limits.{microsMost}
 use Rattle.model.specs.DbState.{State}
 use Rattle.model.specs.DbCluster.{placeOf, isStrong, strongOnes, strongAt, isDense, endsOf, joins, joinsOf}
 use Rattle.model.specs.Dbstream.{dbstream}
-use Rattle.claims.specs.Lists.{In, PairBefore, Ascending}
+use Rattle.claims.specs.Lists.{PairBefore, Ascending}
 use Rattle.claims.specs.Finds.{FindsTold}
 use Rattle.claims.specs.DbClaims.{Older, Before, Live, LinksHeld}
 use Rattle.claims.proofs.Order.{and-true, each-both, each-map, ascending-map, each-retain, ascending-retain, retain-passes}

@@ -3,7 +3,7 @@ use Prim.Native.Nat.{ℕ, suc, _+_, _<_, _≤_}
 use mathlib.Core.Path.{_≡_, refl, sym, ap, _∙_}
 use mathlib.Core.Logic.{inl, inr}
 use mathlib.Core.Bool.{Bool, true, false, cond}
-use mathlib.Core.List.{List, [], _∷_, _++_, map}
+use mathlib.Core.List.{List, [], _∷_}
 use native.Mathlib.Omega.{arith}
 use lib.Ieee.{Float}
 use lib.ListN.{length, length-map}
@@ -18,7 +18,7 @@ use Rattle.model.specs.Denstream.{denstream}
 use Rattle.claims.specs.Lists.{PairBefore, Ascending}
 use Rattle.claims.specs.Finds.{FindsTold}
 use Rattle.claims.proofs.Order.{ascending-append}
-use Rattle.claims.proofs.Finds.{places-count, Within, finds-told}
+use Rattle.claims.proofs.Finds.{places-count, finds-told}
 
 -- the pairs of a row: of place i, with places from j on
 abbrev InRow : (i j n : ℕ) → ℕ × ℕ → Type 0

@@ -51,7 +51,9 @@ module _
   unfolding labelsOf
   labels-are = ap₂ labelsBy strong-are joins-are
 
-  pub clustered : (labels : List ℤ) → take (s .count) labels ≡ labelsBy held (joinedIn held named) → labelled (view s) (take (s .count) labels) ≡ clusterOf (view s)
+  pub clustered :
+      (labels : List ℤ) → take (s .count) labels ≡ labelsBy held (joinedIn held named) →
+      labelled (view s) (take (s .count) labels) ≡ clusterOf (view s)
   clustered labels e = ap (labelled (view s)) (e ∙ labels-are)
 
   -- what f says of the finds

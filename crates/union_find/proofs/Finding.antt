@@ -7,13 +7,12 @@ use native.Mathlib.Omega.{arith}
 use native.Mathlib.Numerals.{add-one}
 use Rattle.union_find.specs.declared.forest.UnionFind.{UnionFind}
 use Rattle.union_find.specs.declared.forest.Reached.{Reached}
-use Rattle.union_find.specs.declared.forest.Joins.{Joins}
-use Rattle.union_find.specs.Forest.{places, up, halve, findFrom, findOf, linkOf, unionOf}
+use Rattle.union_find.specs.Forest.{places, up, halve, Found, findFrom, findOf, linkOf, unionOf}
 use Rattle.union_find.specs.Steps.{unionSteps}
-use Rattle.union_find.specs.Inside.Joins.{joinsBy}
+use Rattle.union_find.specs.Inside.Told.{foundTold, joinsBy}
 use Rattle.union_find.specs.Laws.WellFormed.{halve-well}
 use Rattle.union_find.specs.Inside.WellFormed.{WellFormed, Ranked}
-use Rattle.union_find.specs.Laws.Find.{find-law, find-stop, find-on, Made, made-few, made-next, steps-less}
+use Rattle.union_find.specs.Laws.Find.{Finds, find-law, find-stop, find-on, Made, made-few, made-next, steps-less}
 
 -- after so many halving steps from p₀ and x the parents are p, and the find stands at `at`
 pub record Turn (p₀ : List ℕ) (x : ℕ) (p : List ℕ) (at steps : ℕ) : Type 0 where
@@ -64,35 +63,35 @@ module _ {p₀ : List ℕ} {x : ℕ} {p : List ℕ} {at steps : ℕ} (t : Turn p
   turn-less e = steps-less p (t .rank) (t .well) at (t .low) e
 
 -- what a find gives back: f and the parents q
-module _ (p r : List ℕ) (wf : WellFormed p r) (x : ℕ) (hx : x < places) (f : Reached) (q : List ℕ)
-    (e : (f .root ≡ findOf p x .root) × (q ≡ findOf p x .parent) × (f .steps ≡ findOf p x .steps)) where
+module _ (p r : List ℕ) (wf : WellFormed p r) (x : ℕ) (hx : x < places) (f : Reached) (q : List ℕ) (e : foundTold q f ≡ findOf p x) where
+  found : Finds p r x (foundTold q f)
+  found = subst (Finds p r x) (sym e) (find-law p r wf x hx)
+
   pub found-well : WellFormed q r
-  found-well = rw (e .1) (find-law p r wf x hx .well)
+  found-well = found .well
 
   -- the root found is a place
   pub found-low : f .root < places
-  found-low = rw (e .0) (find-law p r wf x hx .low)
+  found-low = found .low
 
+  -- and few steps led to it
   pub found-few : f .steps ≤ 3
-  found-few = rw (e .2) (find-law p r wf x hx .few)
+  found-few = found .few
 
 -- two finds and a link are a union
 pub unioned :
     (u : UnionFind) (a b : ℕ) (x y : Reached) (p q : List ℕ) (v : UnionFind) →
-    (x .root ≡ findOf (u .parent) a .root) × (p ≡ findOf (u .parent) a .parent) × (x .steps ≡ findOf (u .parent) a .steps) →
-    (y .root ≡ findOf p b .root) × (q ≡ findOf p b .parent) × (y .steps ≡ findOf p b .steps) →
+    foundTold p x ≡ findOf (u .parent) a →
+    foundTold q y ≡ findOf p b →
     v ≡ linkOf (record { parent = q; rank = u .rank }) (x .root) (y .root) →
     record { forest = v; finds = 2; steps = x .steps + y .steps } ≡ joinsBy (unionOf u a b) (unionSteps u a b)
 unfolding unionOf
 unioned u a b x y p q v ex ey ev =
-    ap₂ (λ (w : UnionFind) (k : ℕ). record { forest = w; finds = 2; steps = k }) forest steps
+    ap₂ (λ (w : UnionFind) (k : ℕ). record { forest = w; finds = 2; steps = k }) (ev ∙ ap₂ linked ex second)
+    (let e : x .steps + y .steps ≡ x .steps + (y .steps + 0) = omega arith in e ∙ ap₂ (λ (f g : Found). f .steps + (g .steps + 0)) ex second)
   where
-    forest : v ≡ linkOf (record { parent = findOf (findOf (u .parent) a .parent) b .parent; rank = u .rank }) (findOf (u .parent) a .root)
-        (findOf (findOf (u .parent) a .parent) b .root)
-    forest = rw (ev, ey .1, ey .0, ex .0, ex .1)
+    second : foundTold q y ≡ findOf (findOf (u .parent) a .parent) b
+    second = ey ∙ ap (λ (f : Found). findOf (f .parent) b) ex
 
-    second : y .steps ≡ findOf (findOf (u .parent) a .parent) b .steps
-    second = rw (ey .2, ex .1)
-
-    steps : x .steps + y .steps ≡ findOf (u .parent) a .steps + (findOf (findOf (u .parent) a .parent) b .steps + 0)
-    steps = omega (arith, ex .2, second)
+    linked : Found → Found → UnionFind
+    linked f g = linkOf (record { parent = g .parent; rank = u .rank }) (f .root) (g .root)

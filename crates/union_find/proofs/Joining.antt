@@ -1,32 +1,24 @@
--- The loops of `joined` and `roots`. Assumes nothing.
+-- The loop of `joined`: the pairs joined so far and those left. Assumes nothing.
 use Prim.Native.Nat.{ℕ, zero, suc, _+_, _*_, _<_, _≤_, min}
 use mathlib.Core.Path.{_≡_, refl, sym, _∙_, ap, ap₂, subst}
-use mathlib.Core.Logic.{by-cases}
-use mathlib.Core.Bool.{Bool, true, false, cond}
 use mathlib.Core.List.{List, [], _∷_, _++_}
 use native.Mathlib.Omega.{arith}
 use native.Mathlib.Numerals.{add-one}
-use native.Mathlib.Decide.{ℕ-discrete, decLt}
-use lib.ListN.{length, getD, set, drop, length-set, length-replicate, replicate, length-append, List·getD-eq-default, getD-replicate}
-use lib.Seq.{drop-cons, drop-length, getD-set-same, getD-set-other, ext-getD}
+use lib.ListN.{length, getD, drop, length-append}
 use Rattle.lists.specs.Total.{total}
 use Rattle.lists.specs.Laws.Total.{total-append, total-most}
 use Rattle.union_find.specs.declared.forest.UnionFind.{UnionFind}
-use Rattle.union_find.specs.declared.forest.Reached.{Reached}
 use Rattle.union_find.specs.declared.forest.Joins.{Joins}
 use Rattle.union_find.specs.Pairs.{pairsOf}
-use Rattle.union_find.specs.Forest.{places, newOf, findOf, unionOf, joinOf, joinAll, rootsOf, rootsIn}
-use Rattle.union_find.specs.Steps.{unionSteps, joinSteps, joinsSteps, seekSteps, placesFrom, findSteps}
-use Rattle.union_find.specs.Inside.Joins.{joinsBy}
-use Rattle.union_find.specs.Inside.WellFormed.{Ranked, Sound}
-use Rattle.union_find.specs.Laws.WellFormed.{rootOf}
-use Rattle.union_find.specs.Laws.Find.{Finds, find-law}
+use Rattle.union_find.specs.Forest.{places, newOf, unionOf, joinOf, joinAll}
+use Rattle.union_find.specs.Steps.{unionSteps, joinSteps, joinsSteps}
+use Rattle.union_find.specs.Inside.Told.{joinsBy}
+use Rattle.union_find.specs.Inside.WellFormed.{Sound}
 use Rattle.union_find.specs.Laws.Union.{new-law}
 use Rattle.union_find.specs.Laws.Join.{join-in, join-out, steps-in, steps-out, join-sound}
-use Rattle.union_find.specs.Laws.Root.{forest-tells, root-at, sought-length, sought-at}
-use Rattle.union_find.specs.Laws.Steps.{joins-few, finds-most, steps-most}
+use Rattle.union_find.specs.Laws.Steps.{joins-few}
 
--- ---- the two ways of a join
+-- ---- the two ways of a join, as it is given back
 module _ (n : ℕ) (u : UnionFind) (e : ℕ × ℕ) where
   pub join-made : e .0 < n → e .1 < n → joinsBy (unionOf u (e .0) (e .1)) (unionSteps u (e .0) (e .1)) ≡ joinsBy (joinOf n u e) (joinSteps n u e)
   join-made ha hb = ap₂ joinsBy (sym (join-in n u e ha hb)) (sym (steps-in n u e ha hb))
@@ -35,12 +27,14 @@ module _ (n : ℕ) (u : UnionFind) (e : ℕ × ℕ) where
   join-none h = ap₂ joinsBy (sym (join-out n u e h)) (sym (steps-out n u e h))
 
 -- ---- the pairs not yet joined
+-- the next of them
 pub pairs-drop : (xs ys : List ℕ) (k : ℕ) → k < length xs → k < length ys → drop k (pairsOf xs ys) ≡ (getD xs k 0, getD ys k 0) ∷ drop (suc k) (pairsOf xs ys)
 pairs-drop [] ys k h g = absurd (omega arith)
 pairs-drop (x ∷ xs) [] k h g = absurd (omega arith)
 pairs-drop (x ∷ xs) (y ∷ ys) zero h g = refl
 pairs-drop (x ∷ xs) (y ∷ ys) (suc k) h g = pairs-drop xs ys k (omega arith) (omega arith)
 
+-- none is left
 pub pairs-end : (xs ys : List ℕ) (k : ℕ) → min (length xs) (length ys) ≤ k → drop k (pairsOf xs ys) ≡ []
 pairs-end [] ys zero h = refl
 pairs-end [] ys (suc k) h = refl
@@ -49,6 +43,7 @@ pairs-end (x ∷ xs) [] (suc k) h = refl
 pairs-end (x ∷ xs) (y ∷ ys) zero h = absurd (omega arith)
 pairs-end (x ∷ xs) (y ∷ ys) (suc k) h = pairs-end xs ys k (omega arith)
 
+-- there are no more than there are first places
 pub pairs-few : (xs ys : List ℕ) → length (pairsOf xs ys) ≤ length xs
 pairs-few [] ys = omega arith
 pairs-few (x ∷ xs) [] = omega arith
@@ -101,146 +96,3 @@ module _ (n : ℕ) (hn : n ≤ places) (es : List (ℕ × ℕ)) (u : UnionFind) 
   pub joining-end : drop k es ≡ [] → record { forest = u; finds = finds; steps = steps } ≡ joinsBy (joinAll n newOf es) (joinsSteps n newOf es)
   unfolding joinsSteps
   joining-end e = rw (← j .forest, ← j .found, ← j .halved, e) (ap₂ (λ (f s : ℕ). record { forest = u; finds = f; steps = s }) (omega arith) (omega arith))
-
--- ---- the places passed, with parents p that the finds have made of p₀: their roots are noted where they are sought
-pub record Seeking (sought : List Bool) (es : List (ℕ × ℕ)) (p₀ p roots : List ℕ) (finds steps i : ℕ) : Type 0 where
-  pub ranked : Ranked p
-  pub same : (k : ℕ) → k < places → rootOf p k ≡ rootOf p₀ k
-  pub size : length roots ≡ places
-  pub within : i ≤ length sought
-  pub noted : (k : ℕ) → k < i → getD roots k 0 ≡ cond (getD sought k false) (rootOf p₀ k) 0
-  pub unset : (k : ℕ) → i ≤ k → getD roots k 0 ≡ 0
-  -- with the finds left it is all finds, and all their steps
-  pub found : finds + length (seekSteps p (placesFrom i (drop i sought))) ≡ length (findSteps sought es)
-  pub halved : steps + total (seekSteps p (placesFrom i (drop i sought))) ≡ total (findSteps sought es)
-
--- the finds left from the place i on
-module _ (sought : List Bool) (p : List ℕ) (i : ℕ) where
-  left-taken :
-      i < length sought → getD sought i false ≡ true →
-      seekSteps p (placesFrom i (drop i sought)) ≡ findOf p i .steps ∷ seekSteps (findOf p i .parent) (placesFrom (suc i) (drop (suc i) sought))
-  unfolding seekSteps placesFrom
-  left-taken h b = rw (drop-cons sought i false h, b, add-one i)
-
-  left-passed : i < length sought → getD sought i false ≡ false → seekSteps p (placesFrom i (drop i sought)) ≡ seekSteps p (placesFrom (suc i) (drop (suc i) sought))
-  unfolding placesFrom
-  left-passed h b = rw (drop-cons sought i false h, b, add-one i)
-
-  left-none : i ≡ length sought → seekSteps p (placesFrom i (drop i sought)) ≡ []
-  unfolding seekSteps placesFrom
-  left-none e = rw (e, drop-length sought)
-
-zeros : (n k : ℕ) → _≡_ {A = ℕ} (getD (replicate n 0) k 0) 0
-zeros n k =
-    by-cases (decLt k n) (λ h. getD-replicate n k 0 0 h)
-    (λ h. List·getD-eq-default {A = ℕ} (replicate n 0) 0 (omega (arith, length-replicate {A = ℕ} n 0)))
-
-module _ (sought : List Bool) (es : List (ℕ × ℕ)) where
-  abbrev end : ℕ
-  end = min (length sought) places
-
-  abbrev forest : UnionFind
-  forest = joinAll end newOf es
-
-  -- before the first place, with what the joins give back
-  start : Seeking sought es (forest .parent) (forest .parent) (replicate places 0) (length (joinsSteps end newOf es)) (total (joinsSteps end newOf es)) 0
-  unfolding findSteps
-  start =
-      record {
-        ranked = (forest .rank, forest-tells end (omega arith) es .sound);
-        same = λ k hk. refl;
-        size = length-replicate {A = ℕ} places 0;
-        within = omega arith;
-        noted = λ k hk. absurd (omega arith);
-        unset = λ k hk. zeros places k;
-        found = sym (length-append (joinsSteps end newOf es) (seekSteps (forest .parent) (placesFrom 0 sought)));
-        halved = sym (total-append (joinsSteps end newOf es) (seekSteps (forest .parent) (placesFrom 0 sought)));
-      }
-
-  pub seek-start :
-      (n : ℕ) →
-      n ≡ end →
-      (m : Joins) →
-      m ≡ joinsBy (joinAll n newOf es) (joinsSteps n newOf es) →
-      Seeking sought es (m .forest .parent) (m .forest .parent) (replicate places 0) (m .finds) (m .steps) 0
-  seek-start n en m em =
-      subst (λ (x : Joins). Seeking sought es (x .forest .parent) (x .forest .parent) (replicate places 0) (x .finds) (x .steps) 0)
-      (sym (em ∙ ap (λ (k : ℕ). joinsBy (joinAll k newOf es) (joinsSteps k newOf es)) en)) start
-
-module _ (sought : List Bool) (few : length sought ≤ places) (es : List (ℕ × ℕ)) (p₀ p roots : List ℕ) (finds steps i : ℕ)
-    (s : Seeking sought es p₀ p roots finds steps i) where
-  -- the place i is sought: the find gives back f and the parents q
-  pub seek-takes :
-      i < length sought →
-      getD sought i false ≡ true →
-      (f : Reached) (q : List ℕ) →
-      (f .root ≡ findOf p i .root) × (q ≡ findOf p i .parent) × (f .steps ≡ findOf p i .steps) →
-      Seeking sought es p₀ q (set roots i (f .root)) (finds + 1) (steps + f .steps) (i + 1)
-  seek-takes hi b f q e =
-      subst (λ (q : List ℕ). Seeking sought es p₀ q (set roots i (f .root)) (finds + 1) (steps + f .steps) (i + 1)) (sym (e .1))
-      (subst (Seeking sought es p₀ (findOf p i .parent) (set roots i (f .root)) (finds + 1) (steps + f .steps)) (sym (add-one i))
-      (record {
-        ranked = (s .ranked .0, g .well);
-        same = λ k hk. g .same k hk ∙ s .same k hk;
-        size = length-set roots i (f .root) ∙ s .size;
-        within = omega arith;
-        noted = λ k hk. by-cases (ℕ-discrete k i)
-            (λ k=i. subst (λ (m : ℕ). getD (set roots i (f .root)) m 0 ≡ cond (getD sought m false) (rootOf p₀ m) 0) (sym k=i) here)
-            (λ k≠i. getD-set-other roots i k (f .root) 0 k≠i ∙ s .noted k (omega arith));
-        unset = λ k hk. getD-set-other roots i k (f .root) 0 (λ (k=i : k ≡ i). omega arith) ∙ s .unset k (omega arith);
-        found = omega (arith, s .found, ap length left);
-        halved = omega (arith, s .halved, ap total left, e .2);
-      }))
-    where
-      g : Finds p (s .ranked .0) i (findOf p i)
-      g = find-law p (s .ranked .0) (s .ranked .1) i (omega arith)
-
-      here : getD (set roots i (f .root)) i 0 ≡ cond (getD sought i false) (rootOf p₀ i) 0
-      here = rw b (getD-set-same roots i (f .root) 0 (omega (arith, s .size)) ∙ e .0 ∙ g .is-root ∙ s .same i (omega arith))
-
-      left : seekSteps p (placesFrom i (drop i sought)) ≡ findOf p i .steps ∷ seekSteps (findOf p i .parent) (placesFrom (suc i) (drop (suc i) sought))
-      left = left-taken sought p i hi b
-
-  -- it is not
-  pub seek-passes : i < length sought → getD sought i false ≡ false → Seeking sought es p₀ p roots finds steps (i + 1)
-  seek-passes hi b =
-      subst (Seeking sought es p₀ p roots finds steps) (sym (add-one i))
-      (record {
-        ranked = s .ranked;
-        same = s .same;
-        size = s .size;
-        within = omega arith;
-        noted = λ k hk. by-cases (ℕ-discrete k i)
-            (λ k=i. subst (λ (m : ℕ). getD roots m 0 ≡ cond (getD sought m false) (rootOf p₀ m) 0) (sym k=i) (rw b (s .unset i (omega arith))))
-            (λ k≠i. s .noted k (omega arith));
-        unset = λ k hk. s .unset k (omega arith);
-        found = omega (arith, s .found, ap length left);
-        halved = omega (arith, s .halved, ap total left);
-      })
-    where
-      left : seekSteps p (placesFrom i (drop i sought)) ≡ seekSteps p (placesFrom (suc i) (drop (suc i) sought))
-      left = left-passed sought p i hi b
-
-  -- the figures stay small
-  pub seek-few : (finds ≤ 2 * length es + places) × (steps ≤ 3 * (2 * length es + places))
-  seek-few = (
-    omega (arith, s .found, finds-most sought es few),
-    omega (arith, s .halved, finds-most sought es few, steps-most sought es few),
-  )
-
-  -- no place is left
-  pub seek-ends :
-      i ≡ length sought → p₀ ≡ joinAll (min (length sought) places) newOf es .parent →
-      (roots ≡ rootsIn sought es) × ((finds ≡ length (findSteps sought es)) × (steps ≡ total (findSteps sought es)))
-  seek-ends e ep = (
-    ext-getD 0 roots (rootsIn sought es) (s .size ∙ sym (sought-length sought es)) (λ k hk. at k (omega (arith, s .size)) ∙ sym (sought-at sought es k (omega (arith, s .size)))),
-    (omega (arith, s .found, ap length none), omega (arith, s .halved, ap total none)),
-  )
-    where
-      none : seekSteps p (placesFrom i (drop i sought)) ≡ []
-      none = left-none sought p i e
-
-      at : (k : ℕ) → k < places → getD roots k 0 ≡ cond (getD sought k false) (getD (rootsOf (length sought) es) k 0) 0
-      at k hk =
-          by-cases (decLt k i) (λ h. s .noted k h ∙ ap (λ (r : ℕ). cond (getD sought k false) r 0) (ap (λ (l : List ℕ). rootOf l k) ep ∙ sym (root-at (length sought) es k hk)))
-          (λ h. s .unset k (omega arith) ∙ rw (List·getD-eq-default sought false {n = k} (omega arith)))

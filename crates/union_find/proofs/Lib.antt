@@ -1,3 +1,4 @@
 -- What the proofs of `src/` cite, on plain lists.
 mod Finding
 mod Joining
+mod Seeking

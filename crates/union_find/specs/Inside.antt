@@ -1,4 +1,4 @@
 -- What only the contracts of private functions cite.
-pub mod Joins
 pub mod Sum
+pub mod Told
 pub mod WellFormed

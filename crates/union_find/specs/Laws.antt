@@ -8,3 +8,4 @@ pub mod Union
 pub mod Join
 pub mod Root
 pub mod Steps
+pub mod Examples

@@ -9,7 +9,7 @@ ghost use Rattle.union_find.specs.Pairs.{pairsOf};
 ghost use Rattle.union_find.specs.Forest.{places, newOf, findOf, linkOf, unionOf, joinOf, joinAll, rootsIn};
 ghost use Rattle.union_find.specs.Steps.{unionSteps, joinSteps, joinsSteps, findSteps};
 ghost use Rattle.union_find.specs.Inside.WellFormed.{Ranked, Sound};
-ghost use Rattle.union_find.specs.Inside.Joins.{joinsBy};
+ghost use Rattle.union_find.specs.Inside.Told.{foundTold, joinsBy};
 
 // The parent of each place, a root being its own, and the ranks of the roots.
 struct UnionFind {
@@ -55,10 +55,7 @@ impl UnionFind {
     // The root of x; each place met on the way up gets its grandparent for a parent.
     fn find(parent: &mut [usize; PLACES], x: usize) -> Reached
         requires { ⌜ (Ranked (now parent)) × (x < places) ⌝ }
-        ensures { λ r. ⌜
-            (r .root ≡ findOf (now (parent .entry)) x .root) × (now (parent .exit) ≡ findOf (now (parent .entry)) x .parent)
-            × (r .steps ≡ findOf (now (parent .entry)) x .steps)
-            ⌝ }
+        ensures { λ r. ⌜ foundTold (now (parent .exit)) r ≡ findOf (now (parent .entry)) x ⌝ }
     {
         let mut at = x;
         let mut steps: u64 = 0;

@@ -1,6 +1,7 @@
 //! Every kept figure of the streams, and document 01's questions that need one; a child module of stream.rs, so that it
 //! may read the private fields and call the private functions.
 use super::{DbStream, DenStream, DriftMonitor, Micro, fade, pair};
+use crate::counting::UnionFind;
 use crate::feature::{ClusterFeature, Spherical};
 use crate::kernels::sq_euclidean;
 use crate::text::Line;
@@ -12,6 +13,19 @@ fn labels(labels: &[i64], line: &mut Line) {
     for &l in labels {
         line.label(l);
     }
+}
+
+/// Document 02, item 8: the finds and the halving steps where these pairs of n places are joined in this order, and then
+/// the roots of the places that are sought are found.
+fn work(n: usize, pairs: Vec<(usize, usize)>, sought: Vec<usize>) -> (u64, u64) {
+    let mut uf = UnionFind::new(n);
+    for (i, j) in pairs {
+        uf.union(i, j);
+    }
+    for i in sought {
+        uf.find(i);
+    }
+    (uf.finds, uf.steps)
 }
 
 fn feature(cf: &Feature, line: &mut Line) {
@@ -84,6 +98,23 @@ impl DbStream<f64, Feature> {
         links.iter().map(|(k, s)| ([k.0, k.1], s.value * fade(self.lambda, self.t, s.last_t))).collect()
     }
 
+    /// The finds and halving steps of a cluster "in ascending pair order", which the Rust's map of links does not keep.
+    pub fn work(&self) -> (u64, u64) {
+        let strong = |i: &usize| self.faded_weight(&self.micros[*i]) >= self.min_weight;
+        let place = |id: u64| self.micros.iter().position(|m| m.id == id);
+        let mut pairs: Vec<(usize, usize)> = vec![];
+        for ([a, b], value) in self.faded_links() {
+            if let (Some(i), Some(j)) = (place(a), place(b)) {
+                if strong(&i) && strong(&j) && value >= self.alpha * self.min_weight {
+                    pairs.push((i.min(j), i.max(j)));
+                }
+            }
+        }
+        pairs.sort_unstable();
+        let n = self.micros.len();
+        work(n, pairs, (0..n).filter(strong).collect())
+    }
+
     /// A made-up state: another clock and another next creation number.
     pub fn set_clock(&mut self, t: f64, next_id: u64) {
         (self.t, self.next_id) = (t, next_id);
@@ -144,6 +175,14 @@ impl DenStream<f64, Feature> {
 
     pub fn since_check(&self) -> u64 {
         self.drift.adwin.since_check()
+    }
+
+    /// The finds and halving steps of a cluster.
+    pub fn work(&self) -> (u64, u64) {
+        let n = self.p.len();
+        let close = |i: usize, j: usize| sq_euclidean(self.p[i].cf.mean(), self.p[j].cf.mean()) <= 4.0 * self.eps2;
+        let pairs = (0..n).flat_map(|i| (i + 1..n).map(move |j| (i, j))).filter(|&(i, j)| close(i, j)).collect();
+        work(n, pairs, (0..n).collect())
     }
 
     /// A made-up state: another clock.

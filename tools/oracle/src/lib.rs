@@ -4,6 +4,8 @@
 #[path = "../../../target/oracle/rust/adwin.rs"]
 #[allow(dead_code)]
 pub mod adwin;
+#[path = "../../../target/oracle/rust/counting.rs"]
+pub mod counting;
 #[path = "../../../target/oracle/rust/feature.rs"]
 #[allow(dead_code)]
 pub mod feature;

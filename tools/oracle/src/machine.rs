@@ -211,8 +211,9 @@ impl Current {
         match r.op {
             INSERT => self.insert(r.doubles(), spoiled, line),
             CLUSTER => {
+                let (finds, steps) = either!(&self.stream, s => s.work());
                 either!(&mut self.stream, s => s.cluster());
-                line.word("ok");
+                line.word("ok").number(finds).number(steps);
             }
             LABELS => labels(self.stream.labels(), r.operands[0], line),
             PREDICT => match either!(&self.stream, s => s.try_predict(&r.doubles())) {

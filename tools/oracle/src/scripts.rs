@@ -637,6 +637,30 @@ impl Author {
                 self.say(FIGURES, &[]);
             }
         }
+        // 64 at the corners of a cube, linked along a binomial tree whose lowest place lies deep: its find makes 3 steps,
+        // the most there are. With the larger min_weight the tree's leaves are weak.
+        let code = |p: u64| if p == 63 { 0 } else { (3 << (p + 1).ilog2()) - 2 - p };
+        let corner = |p: u64| [0, 1, 2, 3, 4, 5].map(|b| if code(p) >> b & 1 == 1 { 1.6 } else { 0.0 });
+        let mut edges = vec![(0, 63)];
+        for k in 1..6 {
+            let end = (2 << k) - 1;
+            for b in 0..k {
+                edges.extend((end - (2 << b)..end - (1 << b)).map(|i| (i, i + (1 << b))));
+            }
+            edges.push((end - 1, 63));
+        }
+        for min_weight in [1.0, 2.0] {
+            self.say(OPEN_DB, &[6, bits(1.0), bits(1.0 / 1024.0), bits(0.25), bits(min_weight)]);
+            for i in 0..64 {
+                self.say_doubles(INSERT, &corner(i));
+            }
+            for &(i, j) in &edges {
+                let (a, b) = (corner(i), corner(j));
+                self.say_doubles(INSERT, &[0, 1, 2, 3, 4, 5].map(|c| (a[c] + b[c]) / 2.0));
+            }
+            self.say(CLUSTER, &[]);
+            self.say(LABELS, &[64]);
+        }
         // Births: −0 is stored as +0, and squares that overflow leave no ssd; a NaN first makes every nearest NaN.
         for v in SPECIALS {
             self.say(OPEN_DB, &[2, bits(1.0), bits(0.01), bits(0.5), bits(1.0)]);

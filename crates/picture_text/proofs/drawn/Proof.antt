@@ -22,14 +22,14 @@ returns c =
     let at-cluster = at-micro-stats .before .before .before .before .before in
     let start = at-cluster .before in
     let s = start .args .stream in
-    let u = at-cluster .cluster in
+    let u = at-cluster .cluster .result .stream in
     let f = at-micro-stats .«micro-stats» in
     let l = at-labels2 .labels2 in
     let d = at-drift .drift in
     let n = at-micro-count .«micro-count» in
     let figures = statisticsTold (f .result) (f .last .1 .0) (f .last .1 .1 .0) (f .last .1 .1 .1 .0) in
     let labels = labelsTold (l .result) (l .last .1 .0) in
-    let page = drawing (view s) (view (u .result .stream)) (n .result) figures labels (d .result) (u .ensures .0) (n .ensures) (f .ensures) (l .ensures) (d .ensures) in
+    let page = drawing (view s) (view u) (n .result) figures labels (d .result) (at-cluster .cluster .ensures .0) (n .ensures) (f .ensures) (l .ensures) (d .ensures) in
     worded page (c .drawn .ensures) .is
     ∙ ap (λ (t : List ℕ). take room (t ++ drawnOf (view s))) (c .before .blank .ensures .0)
 

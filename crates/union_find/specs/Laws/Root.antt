@@ -11,7 +11,7 @@ use Rattle.union_find.specs.declared.forest.UnionFind.{UnionFind}
 use Rattle.union_find.specs.Pairs.{Joined, Chain}
 use Rattle.union_find.specs.Laws.Chain.{chain-more}
 use Rattle.union_find.specs.Laws.Merging.{Also, Within, Kernel, kernel-start, kernel-more}
-use Rattle.union_find.specs.Forest.{places, table, newOf, findOf, unionOf, joinOf, joinAll, rootsOf, rootsIn}
+use Rattle.union_find.specs.Forest.{places, newOf, findOf, unionOf, joinOf, joinAll, rootsOf, rootsIn}
 use Rattle.union_find.specs.Laws.WellFormed.{rootOf}
 use Rattle.union_find.specs.Inside.WellFormed.{Sound}
 use Rattle.union_find.specs.Laws.Find.{find-law}

@@ -1,9 +1,8 @@
--- `roots` meets its contract. The loop's invariant: the roots sought among the places passed are noted, every root stays, and with the finds left it is all of them (`Seeking`).
--- Assumes nothing.
+-- `roots` meets its contract. The loop's invariant: of the places passed the roots that are sought are noted, every root stays, and with
+-- the finds left these are all (`Seeking`). Assumes nothing.
 use Prim.Native.Nat.{ℕ, _+_, _-_, _^_, _≤_, _<_}
-use mathlib.Core.Path.{_≡_, sym, ap, _∙_}
-use mathlib.Core.Bool.{Bool, false}
-use mathlib.Core.List.{List}
+use mathlib.Core.Path.{_≡_, ap, _∙_}
+use mathlib.Core.Bool.{false}
 use mathlib.Core.Logic.{⊎-elim}
 use native.Mathlib.Omega.{arith}
 use borrow.Author.Needs.{needs}
@@ -12,7 +11,8 @@ use lib.Seq.{getD-take}
 use Rattle.union_find.specs.declared.forest.Joins.{Joins}
 use Rattle.union_find.specs.Pairs.{pairsOf}
 use Rattle.union_find.specs.Forest.{places, newOf, joinAll}
-use Rattle.union_find.proofs.Joining.{pairs-few, Seeking, seek-start, seek-takes, seek-passes, seek-few, seek-ends}
+use Rattle.union_find.proofs.Joining.{pairs-few}
+use Rattle.union_find.proofs.Seeking.{Seeking, seek-start, seek-takes, seek-passes, seek-few, seek-ends}
 use Rattle.union_find.proofs.forest.roots.Statement.{statement}
 use Rattle.union_find.proofs.forest.roots.Tie as tie
 

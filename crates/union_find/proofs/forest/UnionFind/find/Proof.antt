@@ -1,9 +1,9 @@
 -- `find` meets its contract. The loop's invariant: where it stands is some halving steps from the start (`Turn`).
 -- The measure: the steps that are left. Assumes nothing.
-use mathlib.Core.Path.{sym, ap}
+use mathlib.Core.Path.{sym}
 use native.Mathlib.Omega.{arith}
 use borrow.Author.Needs.{needs}
-use Rattle.union_find.specs.Forest.{Found, findOf}
+use Rattle.union_find.specs.Forest.{findOf}
 use Rattle.union_find.proofs.Finding.{Turn, turn-start, turn-up, turn-next, turn-end, turn-less, turn-few}
 use Rattle.union_find.proofs.forest.UnionFind.find.Statement.{statement}
 use Rattle.union_find.proofs.forest.UnionFind.find.Tie as tie
@@ -57,9 +57,7 @@ loop-again c =
     turn-next (at-loop .loop .inv) (at-if1 .if1 .taken)
 
 returns : tie.Need-returns Inv-loop μ-loop
-returns c =
-    let e = turn-end (c .before .before .loop .inv) (c .if1 .left) in
-    (sym (ap (λ (f : Found). f .root) e), sym (ap (λ (f : Found). f .parent) e), sym (ap (λ (f : Found). f .steps) e))
+returns c = sym (turn-end (c .before .before .loop .inv) (c .if1 .left))
 
 pub find-spec : {M : Type 1} → statement M
 find-spec =

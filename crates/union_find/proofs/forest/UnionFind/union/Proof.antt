@@ -1,7 +1,5 @@
 -- `union` meets its contract: two finds and a link. Assumes nothing.
-use Prim.Native.Nat.{_≤_}
 use native.Mathlib.Omega.{arith}
-use Rattle.union_find.specs.Inside.WellFormed.{WellFormed}
 use Rattle.union_find.proofs.Finding.{found-well, found-low, found-few, unioned}
 use Rattle.union_find.proofs.forest.UnionFind.union.Statement.{statement}
 use Rattle.union_find.proofs.forest.UnionFind.union.Tie as tie
