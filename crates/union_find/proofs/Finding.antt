@@ -9,7 +9,7 @@ use Rattle.union_find.specs.declared.forest.UnionFind.{UnionFind}
 use Rattle.union_find.specs.declared.forest.Reached.{Reached}
 use Rattle.union_find.specs.Forest.{places, up, halve, Found, findFrom, findOf, linkOf, unionOf}
 use Rattle.union_find.specs.Steps.{unionSteps}
-use Rattle.union_find.specs.Inside.Told.{foundTold, joinsBy}
+use Rattle.union_find.specs.Inside.Told.{forestBy, foundTold, workBy}
 use Rattle.union_find.specs.Laws.WellFormed.{halve-well}
 use Rattle.union_find.specs.Inside.WellFormed.{WellFormed, Ranked}
 use Rattle.union_find.specs.Laws.Find.{Finds, find-law, find-stop, find-on, Made, made-few, made-next, steps-less}
@@ -79,19 +79,16 @@ module _ (p r : List ℕ) (wf : WellFormed p r) (x : ℕ) (hx : x < places) (f :
   found-few = found .few
 
 -- two finds and a link are a union
-pub unioned :
-    (u : UnionFind) (a b : ℕ) (x y : Reached) (p q : List ℕ) (v : UnionFind) →
-    foundTold p x ≡ findOf (u .parent) a →
-    foundTold q y ≡ findOf p b →
-    v ≡ linkOf (record { parent = q; rank = u .rank }) (x .root) (y .root) →
-    record { forest = v; finds = 2; steps = x .steps + y .steps } ≡ joinsBy (unionOf u a b) (unionSteps u a b)
-unfolding unionOf
-unioned u a b x y p q v ex ey ev =
-    ap₂ (λ (w : UnionFind) (k : ℕ). record { forest = w; finds = 2; steps = k }) (ev ∙ ap₂ linked ex second)
-    (let e : x .steps + y .steps ≡ x .steps + (y .steps + 0) = omega arith in e ∙ ap₂ (λ (f g : Found). f .steps + (g .steps + 0)) ex second)
-  where
-    second : foundTold q y ≡ findOf (findOf (u .parent) a .parent) b
-    second = ey ∙ ap (λ (f : Found). findOf (f .parent) b) ex
+module _ (u : UnionFind) (a b : ℕ) (x y : Reached) (p q : List ℕ) (ex : foundTold p x ≡ findOf (u .parent) a) (ey : foundTold q y ≡ findOf p b) where
+  second : foundTold q y ≡ findOf (findOf (u .parent) a .parent) b
+  second = ey ∙ ap (λ (f : Found). findOf (f .parent) b) ex
 
-    linked : Found → Found → UnionFind
-    linked f g = linkOf (record { parent = g .parent; rank = u .rank }) (f .root) (g .root)
+  pub unioned : (v : UnionFind) → v ≡ linkOf (forestBy q (u .rank)) (x .root) (y .root) → v ≡ unionOf u a b
+  unfolding unionOf
+  unioned v e = e ∙ ap₂ (λ (f g : Found). linkOf (forestBy (g .parent) (u .rank)) (f .root) (g .root)) ex second
+
+  -- and the steps are theirs
+  pub union-work : record { finds = 2; steps = x .steps + y .steps } ≡ workBy (unionSteps u a b)
+  union-work =
+      let e : x .steps + y .steps ≡ x .steps + (y .steps + 0) = omega arith in
+      ap (λ (k : ℕ). record { finds = 2; steps = k }) (e ∙ ap₂ (λ (f g : Found). f .steps + (g .steps + 0)) ex second)

@@ -8,23 +8,28 @@ use lib.ListN.{length, getD, drop, length-append}
 use Rattle.lists.specs.Total.{total}
 use Rattle.lists.specs.Laws.Total.{total-append, total-most}
 use Rattle.union_find.specs.declared.forest.UnionFind.{UnionFind}
-use Rattle.union_find.specs.declared.forest.Joins.{Joins}
+use Rattle.union_find.specs.declared.forest.Work.{Work}
 use Rattle.union_find.specs.Pairs.{pairsOf}
 use Rattle.union_find.specs.Forest.{places, newOf, unionOf, joinOf, joinAll}
 use Rattle.union_find.specs.Steps.{unionSteps, joinSteps, joinsSteps}
-use Rattle.union_find.specs.Inside.Told.{joinsBy}
+use Rattle.union_find.specs.Inside.Told.{workBy, joinsBy}
 use Rattle.union_find.specs.Inside.WellFormed.{Sound}
 use Rattle.union_find.specs.Laws.Union.{new-law}
 use Rattle.union_find.specs.Laws.Join.{join-in, join-out, steps-in, steps-out, join-sound}
 use Rattle.union_find.specs.Laws.Steps.{joins-few}
 
--- ---- the two ways of a join, as it is given back
+-- ---- the two ways of a join
 module _ (n : ℕ) (u : UnionFind) (e : ℕ × ℕ) where
-  pub join-made : e .0 < n → e .1 < n → joinsBy (unionOf u (e .0) (e .1)) (unionSteps u (e .0) (e .1)) ≡ joinsBy (joinOf n u e) (joinSteps n u e)
-  join-made ha hb = ap₂ joinsBy (sym (join-in n u e ha hb)) (sym (steps-in n u e ha hb))
+  pub join-made :
+      e .0 < n →
+      e .1 < n →
+      {v : UnionFind} {w : Work} →
+      (v ≡ unionOf u (e .0) (e .1)) × (w ≡ workBy (unionSteps u (e .0) (e .1))) →
+      (v ≡ joinOf n u e) × (w ≡ workBy (joinSteps n u e))
+  join-made ha hb r = (r .0 ∙ sym (join-in n u e ha hb), r .1 ∙ ap workBy (sym (steps-in n u e ha hb)))
 
-  pub join-none : (e .0 < n → e .1 < n → ⊥) → joinsBy u [] ≡ joinsBy (joinOf n u e) (joinSteps n u e)
-  join-none h = ap₂ joinsBy (sym (join-out n u e h)) (sym (steps-out n u e h))
+  pub join-none : (e .0 < n → e .1 < n → ⊥) → (u ≡ joinOf n u e) × (workBy [] ≡ workBy (joinSteps n u e))
+  join-none h = (sym (join-out n u e h), ap workBy (sym (steps-out n u e h)))
 
 -- ---- the pairs not yet joined
 -- the next of them
@@ -66,14 +71,19 @@ joining-start n es u e =
     subst (λ (v : UnionFind). Joining n es v 0 0 0) (sym e) (record { sound = new-law; forest = refl; found = omega arith; halved = omega arith })
 
 module _ (n : ℕ) (hn : n ≤ places) (es : List (ℕ × ℕ)) (u : UnionFind) (finds steps k : ℕ) (j : Joining n es u finds steps k) where
-  -- one join more, which gives back m
+  -- one join more, which leaves the forest v and is the work w
   pub joining-next :
-      (e : ℕ × ℕ) → drop k es ≡ e ∷ drop (suc k) es →
-      (m : Joins) → m ≡ joinsBy (joinOf n u e) (joinSteps n u e) → Joining n es (m .forest) (finds + m .finds) (steps + m .steps) (k + 1)
-  joining-next e left m em =
-      subst (λ (x : Joins). Joining n es (x .forest) (finds + x .finds) (steps + x .steps) (k + 1)) (sym em)
+      (e : ℕ × ℕ) →
+      drop k es ≡ e ∷ drop (suc k) es →
+      (v : UnionFind) (w : Work) →
+      v ≡ joinOf n u e →
+      w ≡ workBy (joinSteps n u e) →
+      Joining n es v (finds + w .finds) (steps + w .steps) (k + 1)
+  joining-next e left v w ev ew =
+      subst (λ (x : UnionFind). Joining n es x (finds + w .finds) (steps + w .steps) (k + 1)) (sym ev)
+      (subst (λ (x : Work). Joining n es (joinOf n u e) (finds + x .finds) (steps + x .steps) (k + 1)) (sym ew)
       (subst (Joining n es (joinOf n u e) (finds + length (joinSteps n u e)) (steps + total (joinSteps n u e))) (sym (add-one k))
-      (record { sound = join-sound n u e hn (j .sound); forest = ap (joinAll n u) (sym left) ∙ j .forest; found = found; halved = halved }))
+      (record { sound = join-sound n u e hn (j .sound); forest = ap (joinAll n u) (sym left) ∙ j .forest; found = found; halved = halved })))
     where
       split : joinsSteps n u (drop k es) ≡ joinSteps n u e ++ joinsSteps n (joinOf n u e) (drop (suc k) es)
       split = ap (joinsSteps n u) left ∙ steps-split n u e (drop (suc k) es)
@@ -93,6 +103,9 @@ module _ (n : ℕ) (hn : n ≤ places) (es : List (ℕ × ℕ)) (u : UnionFind) 
       (omega (arith, j .found, f .count), omega (arith, j .halved, f .count, total-most 3 (joinsSteps n newOf es) (f .few)))
 
   -- no pair is left
-  pub joining-end : drop k es ≡ [] → record { forest = u; finds = finds; steps = steps } ≡ joinsBy (joinAll n newOf es) (joinsSteps n newOf es)
+  pub joining-end :
+      drop k es ≡ [] → record { forest = u; work = record { finds = finds; steps = steps } } ≡ joinsBy (joinAll n newOf es) (joinsSteps n newOf es)
   unfolding joinsSteps
-  joining-end e = rw (← j .forest, ← j .found, ← j .halved, e) (ap₂ (λ (f s : ℕ). record { forest = u; finds = f; steps = s }) (omega arith) (omega arith))
+  joining-end e =
+      rw (← j .forest, ← j .found, ← j .halved, e)
+      (ap₂ (λ (f s : ℕ). record { forest = u; work = record { finds = f; steps = s } }) (omega arith) (omega arith))

@@ -85,9 +85,9 @@ module _ (sought : List Bool) (es : List (ℕ × ℕ)) where
       n ≡ end →
       (m : Joins) →
       m ≡ joinsBy (joinAll n newOf es) (joinsSteps n newOf es) →
-      Seeking sought es (m .forest .parent) (m .forest .parent) (replicate places 0) (m .finds) (m .steps) 0
+      Seeking sought es (m .forest .parent) (m .forest .parent) (replicate places 0) (m .work .finds) (m .work .steps) 0
   seek-start n en m em =
-      subst (λ (x : Joins). Seeking sought es (x .forest .parent) (x .forest .parent) (replicate places 0) (x .finds) (x .steps) 0)
+      subst (λ (x : Joins). Seeking sought es (x .forest .parent) (x .forest .parent) (replicate places 0) (x .work .finds) (x .work .steps) 0)
       (sym (em ∙ ap (λ (k : ℕ). joinsBy (joinAll k newOf es) (joinsSteps k newOf es)) en)) start
 
 module _ (sought : List Bool) (few : length sought ≤ places) (es : List (ℕ × ℕ)) (p₀ p roots : List ℕ) (finds steps i : ℕ)

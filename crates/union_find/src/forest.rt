@@ -8,8 +8,8 @@ ghost use Rattle.lists.specs.Total.{total};
 ghost use Rattle.union_find.specs.Pairs.{pairsOf};
 ghost use Rattle.union_find.specs.Forest.{places, newOf, findOf, linkOf, unionOf, joinOf, joinAll, rootsIn};
 ghost use Rattle.union_find.specs.Steps.{unionSteps, joinSteps, joinsSteps, findSteps};
-ghost use Rattle.union_find.specs.Inside.WellFormed.{Ranked, Sound};
-ghost use Rattle.union_find.specs.Inside.Told.{foundTold, joinsBy};
+ghost use Rattle.union_find.specs.Inside.WellFormed.{WellFormed, Ranked};
+ghost use Rattle.union_find.specs.Inside.Told.{forestBy, foundTold, workBy, joinsBy};
 
 // The parent of each place, a root being its own, and the ranks of the roots.
 struct UnionFind {
@@ -23,11 +23,16 @@ struct Reached {
     steps: u64,
 }
 
-// A forest after joins, the finds that were made for them, and the halving steps of all these.
-struct Joins {
-    forest: UnionFind,
+// Finds that were made, and the halving steps of all of them.
+struct Work {
     finds: u64,
     steps: u64,
+}
+
+// A forest after joins, and the finds that were made for them.
+struct Joins {
+    forest: UnionFind,
+    work: Work,
 }
 
 // The root of each place that was sought, 0 at every other; all finds that were made, and their halving steps.
@@ -70,15 +75,13 @@ impl UnionFind {
     }
 
     // The roots x and y made one: the lower rank goes under the higher, and of equals y under x.
-    fn link(self, x: usize, y: usize) -> Self
-        requires { ⌜ (Sound self) × (x < places) × (y < places) ⌝ }
-        ensures { λ r. ⌜ r ≡ linkOf self x y ⌝ }
+    fn link(parent: &mut [usize; PLACES], rank: &mut [u8; PLACES], x: usize, y: usize)
+        requires { ⌜ (WellFormed (now parent) (now rank)) × (x < places) × (y < places) ⌝ }
+        ensures { λ r. ⌜ forestBy (now (parent .exit)) (now (rank .exit)) ≡ linkOf (forestBy (now (parent .entry)) (now (rank .entry))) x y ⌝ }
     {
         if x == y {
-            return self;
+            return;
         }
-        let mut parent = self.parent;
-        let mut rank = self.rank;
         if rank[x] < rank[y] {
             parent[x] = y;
         } else {
@@ -87,38 +90,41 @@ impl UnionFind {
                 rank[x] = rank[x] + 1;
             }
         }
-        UnionFind { parent, rank }
     }
 
     // The classes of a and b made one.
-    fn union(mut self, a: usize, b: usize) -> Joins
-        requires { ⌜ (Sound self) × (a < places) × (b < places) ⌝ }
-        ensures { λ r. ⌜ r ≡ joinsBy (unionOf self a b) (unionSteps self a b) ⌝ }
+    fn union(parent: &mut [usize; PLACES], rank: &mut [u8; PLACES], a: usize, b: usize) -> Work
+        requires { ⌜ (WellFormed (now parent) (now rank)) × (a < places) × (b < places) ⌝ }
+        ensures { λ r. ⌜ forestBy (now (parent .exit)) (now (rank .exit)) ≡ unionOf (forestBy (now (parent .entry)) (now (rank .entry))) a b ⌝ }
+        ensures work { λ r. ⌜ r ≡ workBy (unionSteps (forestBy (now (parent .entry)) (now (rank .entry))) a b) ⌝ }
     {
-        let x = UnionFind::find(&mut self.parent, a);
-        let y = UnionFind::find(&mut self.parent, b);
-        Joins {
-            forest: self.link(x.root, y.root),
+        let x = UnionFind::find(parent, a);
+        let y = UnionFind::find(parent, b);
+        UnionFind::link(parent, rank, x.root, y.root);
+        Work {
             finds: 2,
             steps: x.steps + y.steps,
         }
     }
 
     // A pair with a place that is not below n joins nothing.
-    fn join(self, a: usize, b: usize, n: usize) -> Joins
-        requires { ⌜ (Sound self) × (n ≤ places) ⌝ }
-        ensures { λ r. ⌜ r ≡ joinsBy (joinOf n self (a, b)) (joinSteps n self (a, b)) ⌝ }
+    fn join(
+        parent: &mut [usize; PLACES],
+        rank: &mut [u8; PLACES],
+        a: usize,
+        b: usize,
+        n: usize,
+    ) -> Work
+        requires { ⌜ (WellFormed (now parent) (now rank)) × (n ≤ places) ⌝ }
+        ensures { λ r. ⌜ forestBy (now (parent .exit)) (now (rank .exit)) ≡ joinOf n (forestBy (now (parent .entry)) (now (rank .entry))) (a, b) ⌝ }
+        ensures work { λ r. ⌜ r ≡ workBy (joinSteps n (forestBy (now (parent .entry)) (now (rank .entry))) (a, b)) ⌝ }
     {
         if a < n {
             if b < n {
-                return self.union(a, b);
+                return UnionFind::union(parent, rank, a, b);
             }
         }
-        Joins {
-            forest: self,
-            finds: 0,
-            steps: 0,
-        }
+        Work { finds: 0, steps: 0 }
     }
 }
 
@@ -130,21 +136,21 @@ fn joined(a: &[usize], b: &[usize], n: usize) -> Joins
         ⌝ }
 {
     let end = cut(a.len(), b.len());
-    let mut forest = UnionFind::new();
+    let fresh = UnionFind::new();
+    let mut parent = fresh.parent;
+    let mut rank = fresh.rank;
     let mut finds: u64 = 0;
     let mut steps: u64 = 0;
     let mut k: usize = 0;
     while k < end {
-        let made = forest.join(a[k], b[k], n);
-        forest = made.forest;
+        let made = UnionFind::join(&mut parent, &mut rank, a[k], b[k], n);
         finds += made.finds;
         steps += made.steps;
         k += 1;
     }
     Joins {
-        forest,
-        finds,
-        steps,
+        forest: UnionFind { parent, rank },
+        work: Work { finds, steps },
     }
 }
 
@@ -158,8 +164,8 @@ pub fn roots(a: &[usize], b: &[usize], sought: [bool; PLACES], n: usize) -> Root
     let made = joined(a, b, end);
     let forest = made.forest;
     let mut parent = forest.parent;
-    let mut finds = made.finds;
-    let mut steps = made.steps;
+    let mut finds = made.work.finds;
+    let mut steps = made.work.steps;
     let mut roots = [0usize; PLACES];
     let mut i: usize = 0;
     while i < end {
