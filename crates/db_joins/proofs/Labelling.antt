@@ -31,11 +31,9 @@ module _
   pairs-are =
       eps ∙ ap₂ (λ (is : List MicroId) (bs : List Bool). joinedBy is bs lambda t dense ls) (cut-take k n microsMost ids cut li) strong-are
 
-  -- what f says of the finds
-  pub worked :
-      (f : List ℕ → ℕ) (x : ℕ) → x ≡ f (findSteps (take k strong) ps) →
-      x ≡ f (findSteps (take n strong) (joinedBy (take n ids) (take n strong) lambda t dense ls))
-  worked f x e = e ∙ ap₂ (λ (bs : List Bool) (es : List (ℕ × ℕ)). f (findSteps bs es)) strong-are pairs-are
+  -- so are the finds
+  pub worked : findSteps (take k strong) ps ≡ findSteps (take n strong) (joinedBy (take n ids) (take n strong) lambda t dense ls)
+  worked = ap₂ findSteps strong-are pairs-are
 
   pub labelled :
       (roots : List ℕ) (r : List ℤ) →

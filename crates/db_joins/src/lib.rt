@@ -8,10 +8,9 @@ ghost use mathlib.Core.Path.{_≡_};
 ghost use mathlib.Core.Bool.{false, _&&_};
 ghost use Prim.Native.Nat.{_≤_};
 ghost use lib.Ieee.{le};
-ghost use lib.ListN.{length, take, getD};
-ghost use Rattle.lists.specs.Total.{total};
+ghost use lib.ListN.{take, getD};
 ghost use Rattle.union_find.specs.Pairs.{pairsOf};
-ghost use Rattle.union_find.specs.Steps.{findSteps};
+ghost use Rattle.union_find.specs.Steps.{findSteps, workBy};
 ghost use Rattle.model.specs.Limits.{microsMost, linksMost};
 ghost use Rattle.model.specs.Families.{labelsBy};
 ghost use Rattle.model.specs.DbInsert.{fadedLink};
@@ -118,8 +117,7 @@ pub fn labels_of(
     dense: f64,
 ) -> Labelled
     ensures { λ r. ⌜ take n (r .labels) ≡ labelsBy (take n strong) (joinedBy (take n ids) (take n strong) lambda t dense (take count links)) ⌝ }
-    ensures finds { λ r. ⌜ r .finds ≡ length (findSteps (take n strong) (joinedBy (take n ids) (take n strong) lambda t dense (take count links))) ⌝ }
-    ensures steps { λ r. ⌜ r .steps ≡ total (findSteps (take n strong) (joinedBy (take n ids) (take n strong) lambda t dense (take count links))) ⌝ }
+    ensures work { λ r. ⌜ r .work ≡ workBy (findSteps (take n strong) (joinedBy (take n ids) (take n strong) lambda t dense (take count links))) ⌝ }
 {
     let held = lists::cut(n, MICROS);
     let pairs = joined(links, count, ids, strong, held, lambda, t, dense);
@@ -128,9 +126,9 @@ pub fn labels_of(
     let k = pairs.count;
     let rooted = union_find::roots(&a[..k], &b[..k], strong, held);
     let roots = rooted.roots;
+    let work = rooted.work;
     Labelled {
         labels: labels::labels(roots, strong, held),
-        finds: rooted.finds,
-        steps: rooted.steps,
+        work,
     }
 }

@@ -7,13 +7,14 @@ use lib.IntN.{ℤ}
 use lib.Ieee.{Float}
 use lib.ListN.{take}
 use Rattle.float.specs.Rounded.{_⊗_}
-use Rattle.union_find.specs.Steps.{findSteps}
+use Rattle.union_find.specs.declared.forest.Work.{Work}
+use Rattle.union_find.specs.Steps.{findSteps, workBy}
 use Rattle.model.specs.declared.micro.MicroId.{MicroId}
 use Rattle.model.specs.Families.{labelsBy}
 use Rattle.model.specs.DbInsert.{idOf}
-use Rattle.model.specs.Stream.{labelled, findStepsOf}
+use Rattle.model.specs.Stream.{labelled}
 use Rattle.model.specs.DbCluster.{isStrong, strongOnes, joinsOf, labelsOf}
-use Rattle.model.specs.Dbstream.{dbstream, clusterOf}
+use Rattle.model.specs.Dbstream.{clusterOf, findsOf, stepsOf}
 use Rattle.db_micro.specs.Held.{cutTo, reaches}
 use Rattle.db_joins.specs.Joined.{joinedBy}
 use Rattle.db_joins.specs.Laws.Joined.{joined-view}
@@ -56,6 +57,6 @@ module _
       labelled (view s) (take (s .count) labels) ≡ clusterOf (view s)
   clustered labels e = ap (labelled (view s)) (e ∙ labels-are)
 
-  -- what f says of the finds
-  pub worked : (f : List ℕ → ℕ) (x : ℕ) → x ≡ f (findSteps held (joinedIn held named)) → x ≡ f (findStepsOf dbstream (view s))
-  worked f x e = e ∙ ap₂ (λ (bs : List Bool) (es : List (ℕ × ℕ)). f (findSteps bs es)) strong-are joins-are
+  -- the finds that were made are the stream's
+  pub worked : (w : Work) → w ≡ workBy (findSteps held (joinedIn held named)) → (w .finds ≡ findsOf (view s)) × (w .steps ≡ stepsOf (view s))
+  worked w e = let q = e ∙ ap workBy (ap₂ findSteps strong-are joins-are) in (ap (λ (v : Work). v .finds) q, ap (λ (v : Work). v .steps) q)

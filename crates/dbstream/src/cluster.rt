@@ -32,8 +32,8 @@ impl DbStream {
         self.labels = labels;
         self.label_count = n;
         Clustered {
-            finds: told.finds,
-            steps: told.steps,
+            finds: told.work.finds,
+            steps: told.work.steps,
             stream: self,
         }
     }

@@ -78,10 +78,10 @@ module _ (p : Params) (d k n end : ℕ) (pool : List DenMicro) (es : List (ℕ �
       (roots : List ℕ) → roots ≡ rootsIn (take end (replicate microsMost true)) es → roots ≡ rootsIn (map (λ (m : DenMicro). true) l) (pairsFrom (p .eps2) 0 l)
   roots-cut roots e = e ∙ ap₂ rootsIn sought-are pairs-are
 
-  -- what f says of the finds
-  pub worked : (f : List ℕ → ℕ) (x : ℕ) → x ≡ f (findSteps (take end (replicate microsMost true)) es) → x ≡ f (findStepsIn p l)
+  -- so are the finds
+  pub worked : findSteps (take end (replicate microsMost true)) es ≡ findStepsIn p l
   unfolding findStepsIn
-  worked f x e = e ∙ ap₂ (λ (bs : List Bool) (ks : List (ℕ × ℕ)). f (findSteps bs ks)) sought-are pairs-are
+  worked = ap₂ findSteps sought-are pairs-are
 
 -- the roots stand among the places
 pub roots-low :

@@ -10,8 +10,8 @@ ghost use Prim.Native.Nat.{_≤_, _<_, min, ℕ};
 ghost use mathlib.Core.Path.{_≡_};
 ghost use mathlib.Core.List.{map};
 ghost use lib.Ieee.{le, nan};
-ghost use lib.ListN.{length, take, getD};
-ghost use Rattle.lists.specs.Total.{total};
+ghost use lib.ListN.{take, getD};
+ghost use Rattle.union_find.specs.Steps.{workBy};
 ghost use Rattle.feature.specs.Feature.{maxDim};
 ghost use Rattle.model.specs.Limits.{microsMost};
 ghost use Rattle.den_pool.specs.Held.{seen};
@@ -35,8 +35,7 @@ fn reaching(roots: [usize; MICROS], sums: [f64; MICROS], n: usize, mu: f64) -> [
 // The labels of the first n at the clock t. Roots are sought for all of them.
 pub fn group_labels(pool: [DenMicro; MICROS], n: usize, params: DenParams, t: f64) -> Labelled
     ensures { λ r. ⌜ take n (r .labels) ≡ labelsIn params t (seen (min (params .settings .dim) maxDim) n pool) ⌝ }
-    ensures finds { λ r. ⌜ r .finds ≡ length (findStepsIn params (seen (min (params .settings .dim) maxDim) n pool)) ⌝ }
-    ensures steps { λ r. ⌜ r .steps ≡ total (findStepsIn params (seen (min (params .settings .dim) maxDim) n pool)) ⌝ }
+    ensures work { λ r. ⌜ r .work ≡ workBy (findStepsIn params (seen (min (params .settings .dim) maxDim) n pool)) ⌝ }
 {
     let end = lists::cut(n, MICROS);
     let mut a = [0usize; PAIRS];
@@ -54,9 +53,9 @@ pub fn group_labels(pool: [DenMicro; MICROS], n: usize, params: DenParams, t: f6
     let weights = den_pool::faded_weights(pool, end, params.settings.lambda, t);
     let sums = labels::sums(roots, weights, end);
     let counts = reaching(roots, sums, end, params.settings.mu);
+    let work = rooted.work;
     Labelled {
         labels: labels::labels(roots, counts, end),
-        finds: rooted.finds,
-        steps: rooted.steps,
+        work,
     }
 }

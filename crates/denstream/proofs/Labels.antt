@@ -4,9 +4,11 @@ use mathlib.Core.Path.{_≡_, ap, _∙_}
 use mathlib.Core.List.{List}
 use lib.IntN.{ℤ}
 use lib.ListN.{take}
-use Rattle.model.specs.Stream.{labelled, findStepsOf}
+use Rattle.union_find.specs.declared.forest.Work.{Work}
+use Rattle.union_find.specs.Steps.{workBy}
+use Rattle.model.specs.Stream.{labelled}
 use Rattle.model.specs.DenCluster.{labelsOf}
-use Rattle.model.specs.Denstream.{denstream, clusterOf}
+use Rattle.model.specs.Denstream.{clusterOf, findsOf, stepsOf}
 use Rattle.den_pool.specs.Held.{seen}
 use Rattle.den_placement.specs.Pools.{potentialHeld}
 use Rattle.den_grouping.specs.Group.{labelsIn, findStepsIn}
@@ -25,7 +27,9 @@ module _ (s : DenStream) (n : ℕ) (en : n ≡ potentialHeld (s .«potential_cou
   pub clustered : (labels : List ℤ) → take n labels ≡ labelledBy n → labelled (view s) (take n labels) ≡ clusterOf (view s)
   clustered labels e = ap (labelled (view s)) (e ∙ labels-are)
 
-  -- what f says of the finds
-  pub worked : (f : List ℕ → ℕ) (x : ℕ) → x ≡ f (findStepsIn (s .params) (seen (dimOf s) n (s .potential))) → x ≡ f (findStepsOf denstream (view s))
+  -- the finds that were made are the stream's
+  pub worked : (w : Work) → w ≡ workBy (findStepsIn (s .params) (seen (dimOf s) n (s .potential))) → (w .finds ≡ findsOf (view s)) × (w .steps ≡ stepsOf (view s))
   unfolding findStepsIn heldIn
-  worked f x e = e ∙ ap (λ (k : ℕ). f (findStepsIn (s .params) (seen (dimOf s) k (s .potential)))) en
+  worked w e =
+      let q = e ∙ ap (λ (k : ℕ). workBy (findStepsIn (s .params) (seen (dimOf s) k (s .potential)))) en in
+      (ap (λ (v : Work). v .finds) q, ap (λ (v : Work). v .steps) q)

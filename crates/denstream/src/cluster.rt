@@ -26,8 +26,8 @@ impl DenStream {
         self.labels = labels;
         self.label_count = n;
         Clustered {
-            finds: told.finds,
-            steps: told.steps,
+            finds: told.work.finds,
+            steps: told.work.steps,
             stream: self,
         }
     }

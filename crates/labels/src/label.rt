@@ -1,6 +1,7 @@
 // Labels of places by the root of each.
 use lists::cut;
 use union_find::PLACES;
+use union_find::Work;
 ghost use mathlib.Core.Path.{_≡_};
 ghost use Prim.Native.Nat.{_≤_};
 ghost use lib.IntN.{pos};
@@ -8,11 +9,10 @@ ghost use lib.ListN.{take};
 ghost use Rattle.union_find.specs.Forest.{places};
 ghost use Rattle.labels.specs.Label.{placeIn, labelsIn};
 
-// Labels of places; the finds that were made for them, and the halving steps of all these.
+// Labels of places, and the finds that were made for them.
 pub struct Labelled {
     pub labels: [i64; PLACES],
-    pub finds: u64,
-    pub steps: u64,
+    pub work: Work,
 }
 
 // The place of v among the first `count` of `met`; `count` if it is none of them.

@@ -8,8 +8,8 @@ use native.Mathlib.Numerals.{add-one}
 use Rattle.union_find.specs.declared.forest.UnionFind.{UnionFind}
 use Rattle.union_find.specs.declared.forest.Reached.{Reached}
 use Rattle.union_find.specs.Forest.{places, up, halve, Found, findFrom, findOf, linkOf, unionOf}
-use Rattle.union_find.specs.Steps.{unionSteps}
-use Rattle.union_find.specs.Inside.Told.{forestBy, foundTold, workBy}
+use Rattle.union_find.specs.Steps.{unionSteps, workBy}
+use Rattle.union_find.specs.Inside.Told.{forestBy, foundTold}
 use Rattle.union_find.specs.Laws.WellFormed.{halve-well}
 use Rattle.union_find.specs.Inside.WellFormed.{WellFormed, Ranked}
 use Rattle.union_find.specs.Laws.Find.{Finds, find-law, find-stop, find-on, Made, made-few, made-next, steps-less}

@@ -11,8 +11,8 @@ use Rattle.union_find.specs.declared.forest.UnionFind.{UnionFind}
 use Rattle.union_find.specs.declared.forest.Work.{Work}
 use Rattle.union_find.specs.Pairs.{pairsOf}
 use Rattle.union_find.specs.Forest.{places, newOf, unionOf, joinOf, joinAll}
-use Rattle.union_find.specs.Steps.{unionSteps, joinSteps, joinsSteps}
-use Rattle.union_find.specs.Inside.Told.{workBy, joinsBy}
+use Rattle.union_find.specs.Steps.{unionSteps, joinSteps, joinsSteps, workBy}
+use Rattle.union_find.specs.Inside.Told.{joinsBy}
 use Rattle.union_find.specs.Inside.WellFormed.{Sound}
 use Rattle.union_find.specs.Laws.Union.{new-law}
 use Rattle.union_find.specs.Laws.Join.{join-in, join-out, steps-in, steps-out, join-sound}

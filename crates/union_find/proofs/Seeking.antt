@@ -1,6 +1,6 @@
 -- The loop of `roots`: the places passed and those left. Assumes nothing.
 use Prim.Native.Nat.{ℕ, suc, _+_, _*_, _<_, _≤_, min}
-use mathlib.Core.Path.{_≡_, refl, sym, _∙_, ap, subst}
+use mathlib.Core.Path.{_≡_, refl, sym, _∙_, ap, ap₂, subst}
 use mathlib.Core.Logic.{by-cases}
 use mathlib.Core.Bool.{Bool, true, false, cond}
 use mathlib.Core.List.{List, [], _∷_}
@@ -15,7 +15,7 @@ use Rattle.union_find.specs.declared.forest.UnionFind.{UnionFind}
 use Rattle.union_find.specs.declared.forest.Reached.{Reached}
 use Rattle.union_find.specs.declared.forest.Joins.{Joins}
 use Rattle.union_find.specs.Forest.{places, newOf, Found, findOf, joinAll, rootsOf, rootsIn}
-use Rattle.union_find.specs.Steps.{joinsSteps, seekSteps, placesFrom, findSteps}
+use Rattle.union_find.specs.Steps.{joinsSteps, seekSteps, placesFrom, findSteps, workBy}
 use Rattle.union_find.specs.Inside.Told.{foundTold, joinsBy}
 use Rattle.union_find.specs.Inside.WellFormed.{Ranked}
 use Rattle.union_find.specs.Laws.WellFormed.{rootOf}
@@ -154,11 +154,11 @@ module _ (sought : List Bool) (few : length sought ≤ places) (es : List (ℕ �
   -- no place is left
   pub seek-ends :
       i ≡ length sought → p₀ ≡ joinAll (min (length sought) places) newOf es .parent →
-      (roots ≡ rootsIn sought es) × ((finds ≡ length (findSteps sought es)) × (steps ≡ total (findSteps sought es)))
+      (roots ≡ rootsIn sought es) × (record { finds = finds; steps = steps } ≡ workBy (findSteps sought es))
   seek-ends e ep = (
     ext-getD 0 roots (rootsIn sought es) (s .size ∙ sym (sought-length sought es))
         (λ k hk. let h : k < places = omega (arith, s .size) in at k h ∙ sym (sought-at sought es k h)),
-    (omega (arith, s .found, ap length none), omega (arith, s .halved, ap total none)),
+    ap₂ (λ (f h : ℕ). record { finds = f; steps = h }) (omega (arith, s .found, ap length none)) (omega (arith, s .halved, ap total none)),
   )
     where
       none : seekSteps p (placesFrom i (drop i sought)) ≡ []

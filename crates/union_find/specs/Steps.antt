@@ -4,7 +4,9 @@ use mathlib.Core.Bool.{Bool, _&&_, cond}
 use mathlib.Core.List.{List, [], _∷_, _++_}
 use lib.Dec.{ltb}
 use lib.ListN.{length}
+use Rattle.lists.specs.Total.{total}
 use Rattle.union_find.specs.declared.forest.UnionFind.{UnionFind}
+use Rattle.union_find.specs.declared.forest.Work.{Work}
 use Rattle.union_find.specs.Forest.{places, newOf, findOf, joinOf, joinAll}
 
 -- "The finds are two a join, lower place first": the second has the parents that the first left
@@ -30,8 +32,12 @@ unfoldable pub placesFrom : (i : ℕ) → List Bool → List ℕ
 placesFrom i [] = []
 placesFrom i (b ∷ bs) = cond b (i ∷ placesFrom (i + 1) bs) (placesFrom (i + 1) bs)
 
--- all of them, where pairs of so many places as the list has are joined: as many finds as this list is long, and their steps are its sum
+-- all of them, where pairs of so many places as the list has are joined
 unfoldable pub findSteps : (sought : List Bool) → List (ℕ × ℕ) → List ℕ
 findSteps sought es =
     let n : ℕ = min (length sought) places in
     joinsSteps n newOf es ++ seekSteps (joinAll n newOf es .parent) (placesFrom 0 sought)
+
+-- "the number of finds and the number of halving steps made": how long the list is, and its sum
+abbrev pub workBy : List ℕ → Work
+workBy l = record { finds = length l; steps = total l }

@@ -3,13 +3,12 @@ use crate::PLACES;
 use lists::cut;
 ghost use mathlib.Core.Path.{_≡_};
 ghost use Prim.Native.Nat.{_<_, _≤_};
-ghost use lib.ListN.{length, take};
-ghost use Rattle.lists.specs.Total.{total};
+ghost use lib.ListN.{take};
 ghost use Rattle.union_find.specs.Pairs.{pairsOf};
 ghost use Rattle.union_find.specs.Forest.{places, newOf, findOf, linkOf, unionOf, joinOf, joinAll, rootsIn};
-ghost use Rattle.union_find.specs.Steps.{unionSteps, joinSteps, joinsSteps, findSteps};
+ghost use Rattle.union_find.specs.Steps.{unionSteps, joinSteps, joinsSteps, findSteps, workBy};
 ghost use Rattle.union_find.specs.Inside.WellFormed.{WellFormed, Ranked};
-ghost use Rattle.union_find.specs.Inside.Told.{forestBy, foundTold, workBy, joinsBy};
+ghost use Rattle.union_find.specs.Inside.Told.{forestBy, foundTold, joinsBy};
 
 // The parent of each place, a root being its own, and the ranks of the roots.
 struct UnionFind {
@@ -24,9 +23,9 @@ struct Reached {
 }
 
 // Finds that were made, and the halving steps of all of them.
-struct Work {
-    finds: u64,
-    steps: u64,
+pub struct Work {
+    pub finds: u64,
+    pub steps: u64,
 }
 
 // A forest after joins, and the finds that were made for them.
@@ -35,11 +34,10 @@ struct Joins {
     work: Work,
 }
 
-// The root of each place that was sought, 0 at every other; all finds that were made, and their halving steps.
+// The root of each place that was sought, 0 at every other, and all finds that were made.
 pub struct Rooted {
     pub roots: [usize; PLACES],
-    pub finds: u64,
-    pub steps: u64,
+    pub work: Work,
 }
 
 impl UnionFind {
@@ -157,8 +155,7 @@ fn joined(a: &[usize], b: &[usize], n: usize) -> Joins
 // The roots of those of the first n places that are sought, after the pairs (a[k], b[k]) of these n were joined in order.
 pub fn roots(a: &[usize], b: &[usize], sought: [bool; PLACES], n: usize) -> Rooted
     ensures { λ r. ⌜ r .roots ≡ rootsIn (take n sought) (pairsOf (now (a .entry)) (now (b .entry))) ⌝ }
-    ensures finds { λ r. ⌜ r .finds ≡ length (findSteps (take n sought) (pairsOf (now (a .entry)) (now (b .entry)))) ⌝ }
-    ensures steps { λ r. ⌜ r .steps ≡ total (findSteps (take n sought) (pairsOf (now (a .entry)) (now (b .entry)))) ⌝ }
+    ensures work { λ r. ⌜ r .work ≡ workBy (findSteps (take n sought) (pairsOf (now (a .entry)) (now (b .entry)))) ⌝ }
 {
     let end = cut(n, PLACES);
     let made = joined(a, b, end);
@@ -179,7 +176,6 @@ pub fn roots(a: &[usize], b: &[usize], sought: [bool; PLACES], n: usize) -> Root
     }
     Rooted {
         roots,
-        finds,
-        steps,
+        work: Work { finds, steps },
     }
 }

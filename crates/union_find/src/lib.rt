@@ -2,6 +2,7 @@
 mod forest;
 
 pub use forest::Rooted;
+pub use forest::Work;
 pub use forest::roots;
 
 // How many places there are.

@@ -1,10 +1,10 @@
 -- `labels_of` meets its contract. Assumes nothing.
-use mathlib.Core.Path.{_≡_, sym, _∙_}
+use mathlib.Core.Path.{_≡_, sym, ap, _∙_}
 use native.Mathlib.Omega.{arith}
 use lib.ListN.{length, take, length-map}
 use lib.Seq.{length-take-le}
 use Rattle.model.specs.Limits.{microsMost, linksMost}
-use Rattle.lists.specs.Total.{total}
+use Rattle.union_find.specs.Steps.{workBy}
 use Rattle.db_joins.proofs.Labelling.{worked, labelled}
 use borrow.Author.Needs.{needs}
 use Rattle.db_joins.proofs.labels_of.Statement.{statement}
@@ -48,7 +48,7 @@ slice-aggregate-roots-2 c =
 
 returns : tie.Need-returns
 returns c =
-    let at-roots = c .before .before in
+    let at-roots = c .before .before .before in
     let at-joined = at-roots .before .before .before .before .before in
     let at-cut = at-joined .before in
     let start = at-cut .before in
@@ -61,7 +61,7 @@ returns c =
     worked (a .n) (n .result) (a .ids) (a .strong) (a .lambda) (a .t) (a .dense) ls _ (n .ensures) (ids-size start) (strong-size start) pairs in (
       labelled (a .n) (n .result) (a .ids) (a .strong) (a .lambda) (a .t) (a .dense) ls _ (n .ensures) (ids-size start) (strong-size start) pairs
           (found .result .roots) (c .labels .result) (labels-size c) (found .ensures .0) (c .labels .ensures),
-      (work length (found .result .finds) (found .ensures .1 .0), work total (found .result .steps) (found .ensures .1 .1)),
+      found .ensures .1 ∙ ap workBy work,
     )
 
 pub labels-of-spec : {M : Type 1} → statement M

@@ -1,11 +1,11 @@
 -- `group_labels` meets its contract. Assumes nothing.
 use Prim.Native.Nat.{ℕ, _<_, min}
-use mathlib.Core.Path.{_≡_, refl, sym}
+use mathlib.Core.Path.{_≡_, refl, sym, ap, _∙_}
 use native.Mathlib.Omega.{arith}
 use lib.ListN.{length, getD}
 use lib.Seq.{length-take-le}
 use borrow.Author.Needs.{needs}
-use Rattle.lists.specs.Total.{total}
+use Rattle.union_find.specs.Steps.{workBy}
 use Rattle.model.specs.Limits.{microsMost}
 use Rattle.den_pool.specs.Held.{seen}
 use Rattle.den_grouping.proofs.Labelled.{roots-cut, worked, seen-size, weights-cut, roots-low, labelled}
@@ -40,7 +40,8 @@ reaching-requires c κs =
 
 returns : tie.Need-returns
 returns c =
-    let at-sums = c .before .before in
+    let at-reaching = c .before .before in
+    let at-sums = at-reaching .before in
     let at-faded-weights = at-sums .before in
     let at-roots = at-faded-weights .before .before in
     let at-close-pairs = at-roots .before .before .before in
@@ -58,9 +59,9 @@ returns c =
       labelled (a .params) (a .t) l (k .result) (seen-size d (a .n) (k .result) (a .pool) (k .ensures) s) (omega (arith, k .ensures)) _
           (roots-cut (a .params) _ d (a .n) (k .result) (a .pool) _ (at-cut2 .cut2 .ensures) (k .ensures) s pairs _ (found .ensures .0)) (low at-roots)
           _ (weights-cut d (a .n) (k .result) (a .pool) (a .params .settings .lambda) (a .t) _ (k .ensures) s (at-faded-weights .faded-weights .ensures))
-          _ (at-sums .sums .ensures) _ (c .before .reaching .ensures) (a .n) _ (k .ensures) (c .before .reaching .result) refl
+          _ (at-sums .sums .ensures) _ (at-reaching .reaching .ensures) (a .n) _ (k .ensures) (at-reaching .reaching .result) refl
           (c .labels .ensures) (labels-size c),
-      (work length (found .result .finds) (found .ensures .1 .0), work total (found .result .steps) (found .ensures .1 .1)),
+      found .ensures .1 ∙ ap workBy work,
     )
 
 pub group-labels-spec : {M : Type 1} → statement M

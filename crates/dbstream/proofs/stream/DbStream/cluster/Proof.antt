@@ -1,6 +1,4 @@
 -- `DbStream::cluster` meets its contract. Assumes nothing.
-use lib.ListN.{length}
-use Rattle.lists.specs.Total.{total}
 use Rattle.dbstream.proofs.Labels.{clustered, worked}
 use borrow.Author.Needs.{needs}
 use Rattle.dbstream.proofs.stream.DbStream.cluster.Statement.{statement}
@@ -15,10 +13,9 @@ returns c =
     let s = start .args .self in
     let strong = at-strong-ones .strong-ones in
     let ids = at-ids-of .ids-of in
-    let told = at-labels-of .labels-of in
-    let work = worked s (strong .result) (strong .ensures) (ids .result) (ids .ensures) in (
+    let told = at-labels-of .labels-of in (
       clustered s (strong .result) (strong .ensures) (ids .result) (ids .ensures) (told .result .labels) (told .ensures .0),
-      (work length (told .result .finds) (told .ensures .1 .0), work total (told .result .steps) (told .ensures .1 .1)),
+      worked s (strong .result) (strong .ensures) (ids .result) (ids .ensures) (told .result .work) (told .ensures .1),
     )
 
 pub cluster-spec : {M : Type 1} → statement M

@@ -1,7 +1,5 @@
 -- `DenStream::cluster` meets its contract. Assumes nothing.
 use borrow.Author.Needs.{needs}
-use lib.ListN.{length}
-use Rattle.lists.specs.Total.{total}
 use Rattle.denstream.proofs.Labels.{clustered, worked}
 use Rattle.denstream.proofs.stream.DenStream.cluster.Statement.{statement}
 use Rattle.denstream.proofs.stream.DenStream.cluster.Tie as tie
@@ -13,10 +11,9 @@ returns c =
     let told = c .before .group-labels in
     let at-potential-held = c .before .before in
     let s = at-potential-held .before .before .before .args .self in
-    let n = at-potential-held .potential-held in
-    let work = worked s (n .result) (n .ensures) in (
+    let n = at-potential-held .potential-held in (
       clustered s (n .result) (n .ensures) (told .result .labels) (told .ensures .0),
-      (work length (told .result .finds) (told .ensures .1 .0), work total (told .result .steps) (told .ensures .1 .1)),
+      worked s (n .result) (n .ensures) (told .result .work) (told .ensures .1),
     )
 
 pub cluster-spec : {M : Type 1} → statement M
