@@ -28,7 +28,9 @@ module _ (s : DenStream) (n : ℕ) (en : n ≡ potentialHeld (s .«potential_cou
   clustered labels e = ap (labelled (view s)) (e ∙ labels-are)
 
   -- the finds that were made are the stream's
-  pub worked : (w : Work) → w ≡ workBy (findStepsIn (s .params) (seen (dimOf s) n (s .potential))) → (w .finds ≡ findsOf (view s)) × (w .steps ≡ stepsOf (view s))
+  pub worked :
+      (w : Work) → w ≡ workBy (findStepsIn (s .params) (seen (dimOf s) n (s .potential))) →
+      (w .finds ≡ findsOf (view s)) × (w .steps ≡ stepsOf (view s))
   unfolding findStepsIn heldIn
   worked w e =
       let q = e ∙ ap (λ (k : ℕ). workBy (findStepsIn (s .params) (seen (dimOf s) k (s .potential)))) en in

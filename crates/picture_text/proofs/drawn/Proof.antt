@@ -29,7 +29,9 @@ returns c =
     let n = at-micro-count .«micro-count» in
     let figures = statisticsTold (f .result) (f .last .1 .0) (f .last .1 .1 .0) (f .last .1 .1 .1 .0) in
     let labels = labelsTold (l .result) (l .last .1 .0) in
-    let page = drawing (view s) (view u) (n .result) figures labels (d .result) (at-cluster .cluster .ensures .0) (n .ensures) (f .ensures) (l .ensures) (d .ensures) in
+    let page =
+    drawing (view s) (view u) (n .result) figures labels (d .result) (at-cluster .cluster .ensures .0) (n .ensures) (f .ensures) (l .ensures)
+    (d .ensures) in
     worded page (c .drawn .ensures) .is
     ∙ ap (λ (t : List ℕ). take room (t ++ drawnOf (view s))) (c .before .blank .ensures .0)
 
