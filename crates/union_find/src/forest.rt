@@ -8,7 +8,7 @@ ghost use Rattle.union_find.specs.Pairs.{pairsOf};
 ghost use Rattle.union_find.specs.Forest.{places, newOf, findOf, linkOf, unionOf, joinOf, joinAll, rootsIn};
 ghost use Rattle.union_find.specs.Steps.{unionSteps, joinSteps, joinsSteps, findSteps, workBy};
 ghost use Rattle.union_find.specs.Inside.WellFormed.{WellFormed, Ranked};
-ghost use Rattle.union_find.specs.Inside.Told.{forestBy, foundTold, joinsBy};
+ghost use Rattle.union_find.specs.Inside.Told.{forestBy, foundTold, linkedOf, joinsBy};
 
 // The parent of each place, a root being its own, and the ranks of the roots.
 struct UnionFind {
@@ -38,6 +38,39 @@ struct Joins {
 pub struct Rooted {
     pub roots: [usize; PLACES],
     pub work: Work,
+}
+
+// Which of two roots goes under which, and the rank of the one above.
+struct Linked {
+    under: usize,
+    above: usize,
+    rank: u8,
+}
+
+// Of the roots x and y with these ranks the lower goes under the higher, and of equals y under x, whose rank grows.
+fn by_rank(x: usize, y: usize, rx: u8, ry: u8) -> Linked
+    requires { ⌜ rx ≤ 6 ⌝ }
+    ensures { λ r. ⌜ r ≡ linkedOf x y rx ry ⌝ }
+{
+    if rx < ry {
+        return Linked {
+            under: x,
+            above: y,
+            rank: ry,
+        };
+    }
+    if rx == ry {
+        return Linked {
+            under: y,
+            above: x,
+            rank: rx + 1,
+        };
+    }
+    Linked {
+        under: y,
+        above: x,
+        rank: rx,
+    }
 }
 
 impl UnionFind {
@@ -80,14 +113,11 @@ impl UnionFind {
         if x == y {
             return;
         }
-        if rank[x] < rank[y] {
-            parent[x] = y;
-        } else {
-            parent[y] = x;
-            if rank[x] == rank[y] {
-                rank[x] = rank[x] + 1;
-            }
-        }
+        let l = by_rank(x, y, rank[x], rank[y]);
+        let under = l.under;
+        let above = l.above;
+        parent[under] = above;
+        rank[above] = l.rank;
     }
 
     // The classes of a and b made one.
