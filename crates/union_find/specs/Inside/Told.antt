@@ -1,12 +1,12 @@
--- What a find and joins give back. Definitions only.
+-- What a find, a link and joins give back. Definitions only.
 use Prim.Native.Nat.{ℕ, _+_}
 use mathlib.Core.Bool.{cond}
 use mathlib.Core.List.{List}
+use lib.Dec.{ltb}
 use Rattle.union_find.specs.declared.forest.UnionFind.{UnionFind}
 use Rattle.union_find.specs.declared.forest.Reached.{Reached}
 use Rattle.union_find.specs.declared.forest.Joins.{Joins}
 use Rattle.union_find.specs.declared.forest.Linked.{Linked}
-use lib.Dec.{ltb}
 use Rattle.union_find.specs.Forest.{Found}
 use Rattle.union_find.specs.Steps.{workBy}
 
