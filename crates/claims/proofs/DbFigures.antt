@@ -18,7 +18,7 @@ use Rattle.model.specs.Run.{accepted_in}
 use Rattle.model.specs.DbState.{Settings, Params, Holdings, State}
 use Rattle.model.specs.DbInsert.{id_of, is_neighbour, newborn, absorbs, absorbed, pair_of, pairs_of, gains, absent, before, same_ends, gain_in, has_room, gain_of}
 use Rattle.model.specs.DbInsert.{micro_stays, link_stays, neighbours_of, born, joined, placed, nearest_for, cleanup}
-use Rattle.model.specs.Dbstream.{dbstream, fresh, taken_of, has_place}
+use Rattle.model.specs.Dbstream.{dbstream, taken_of, has_place}
 use Rattle.model.specs.Stream.{taking}
 use Rattle.model.specs.Laws.Stream.{tick_cases}
 use Rattle.claims.specs.Lists.{In, Ascending}
@@ -127,9 +127,9 @@ module _ (lambda t : Float) where
     gain_all (p ∷ ps) u ls g = gain_all ps u.1 (gain_of lambda t ls p) (gain_one p ps u.0 ls g)
 
 -- what is kept of the micro-clusters and links of dim coordinates
-pub record Kept (n dim : ℕ) (h : Holdings) : Type 0 where
-  pub micros : Each (λ (m : DbMicro). KeptBody n dim m.body) h.micros
-  pub densities : Each (λ (l : Link). Weighed n l.value l.last) h.links
+record Kept (n dim : ℕ) (h : Holdings) : Type 0 where
+  micros : Each (λ (m : DbMicro). KeptBody n dim m.body) h.micros
+  densities : Each (λ (l : Link). Weighed n l.value l.last) h.links
 
 -- ---- a point taken
 figures_joined :
@@ -184,11 +184,11 @@ figures_cleanup n dim p t h g =
     }
 
 -- ---- the whole run
-pub record Both (n : ℕ) (s : State) : Type 0 where
-  pub numbered : Numbered n s.held
-  pub kept : Kept n s.params.settings.dim s.held
+record Both (n : ℕ) (s : State) : Type 0 where
+  numbered : Numbered n s.held
+  kept : Kept n s.params.settings.dim s.held
 
-pub both_taken : (n : ℕ) (s : State) (x : List Float) → Counts n s.t → has_place s x ≡ true → Both n s → Both (n + 1) (taken_of s x)
+both_taken : (n : ℕ) (s : State) (x : List Float) → Counts n s.t → has_place s x ≡ true → Both n s → Both (n + 1) (taken_of s x)
 both_taken n s x c e b =
     record {
       numbered = numbered_taken n s x c.limit b.numbered;
@@ -201,11 +201,8 @@ both_taken n s x c e b =
         placed_cases (Kept (n + 1) s.params.settings.dim) s x (λ q. figures_joined n s x c b.numbered.ascending b.kept)
         (λ q. figures_born n s x c b.numbered.ascending b.kept)
 
-pub both_fresh : (p : Settings) → Both 0 (fresh p)
-both_fresh p = record { numbered = numbered_fresh p; kept = record { micros = tt; densities = tt } }
-
 pub figures : (p : Settings) (xs : List (List Float)) → Figures (accepted_in (told p xs)) (after p xs)
 figures p xs =
     let k : Kept (accepted_in (told p xs)) (after p xs).params.settings.dim (after p xs).held =
-    (always dbstream has_place Both both_taken p (both_fresh p) xs).kept in
+    (always dbstream has_place Both both_taken p (record { numbered = numbered_fresh p; kept = record { micros = tt; densities = tt } }) xs).kept in
     record { micros = k.micros; densities = k.densities }

@@ -1,5 +1,4 @@
 -- The ways that a DenStream places a point: four.
-use Prim.Native.Nat.{ℕ}
 use mathlib.Core.Path.{◌≡◌, refl}
 use mathlib.Core.Bool.{Bool, true, false, cond, ◌||◌}
 use mathlib.Core.List.{List, [], ◌∷◌, ◌++◌}
@@ -8,34 +7,28 @@ use lib.ListN.{set}
 use lib.Ieee.{Float, le}
 use Rattle.lists.specs.Retain.{without}
 use Rattle.model.specs.declared.micro.DenMicro.{DenMicro}
-use Rattle.model.specs.Fading.{ticks_of}
 use Rattle.model.specs.Nearest.{Near}
 use Rattle.model.specs.DenState.{Holdings, pooled, State}
 use Rattle.model.specs.DenInsert.{trial_in, newborn, placed_by, placed, is_there, is_absorbed}
-use Rattle.claims.specs.DenClaims.{born_at, taker}
 use Rattle.claims.proofs.DenTrials.{Tried, TriedBy, tried}
 
--- into a potential one; into an outlier that moves up or stays; or a new outlier: with the name of the one that takes it
-pub taken_cases :
-    (P : ℕ → Holdings → Type 0) (s : State) (x : List Float) →
-    ((b : Near DenMicro) →
-    Tried s x s.held.potential b → P (born_at b.micro) (pooled (set s.held.potential b.place b.micro) s.held.outliers)) →
-    ((b : Near DenMicro) →
-    Tried s x s.held.outliers b → P (born_at b.micro) (pooled (s.held.potential ++ b.micro ∷ []) (without b.place s.held.outliers))) →
-    ((b : Near DenMicro) →
-    Tried s x s.held.outliers b → P (born_at b.micro) (pooled s.held.potential (set s.held.outliers b.place b.micro))) →
-    (is_absorbed s x ≡ false → P (ticks_of s.t) (pooled s.held.potential (s.held.outliers ++ newborn s.params.settings.dim s.t x ∷ []))) →
-    P (taker s (trial_in s x s.held.potential) (trial_in s x s.held.outliers)) (placed s x)
+-- into a potential one; into an outlier that moves up or stays; or a new outlier
+pub placed_cases :
+    (P : Holdings → Type 0) (s : State) (x : List Float) →
+    ((b : Near DenMicro) → Tried s x s.held.potential b → P (pooled (set s.held.potential b.place b.micro) s.held.outliers)) →
+    ((b : Near DenMicro) → Tried s x s.held.outliers b → P (pooled (s.held.potential ++ b.micro ∷ []) (without b.place s.held.outliers))) →
+    ((b : Near DenMicro) → Tried s x s.held.outliers b → P (pooled s.held.potential (set s.held.outliers b.place b.micro))) →
+    (is_absorbed s x ≡ false → P (pooled s.held.potential (s.held.outliers ++ newborn s.params.settings.dim s.t x ∷ []))) →
+    P (placed s x)
 unfolding placed
-taken_cases P s x old up stays new =
+placed_cases P s x old up stays new =
     go (trial_in s x s.held.potential) (trial_in s x s.held.outliers) (tried s x s.held.potential) (tried s x s.held.outliers) new
   where
     grown :
         (b : Near DenMicro) →
         Tried s x s.held.outliers b →
         (t : Bool) →
-        P (born_at b.micro)
-        (cond t (pooled (s.held.potential ++ b.micro ∷ []) (without b.place s.held.outliers))
+        P (cond t (pooled (s.held.potential ++ b.micro ∷ []) (without b.place s.held.outliers))
         (pooled s.held.potential (set s.held.outliers b.place b.micro)))
     grown b f true = up b f
     grown b f false = stays b f
@@ -44,19 +37,8 @@ taken_cases P s x old up stays new =
         (p o : Option (Near DenMicro)) →
         TriedBy s x s.held.potential p →
         TriedBy s x s.held.outliers o →
-        ((is_there p || is_there o) ≡ false →
-        P (ticks_of s.t) (pooled s.held.potential (s.held.outliers ++ newborn s.params.settings.dim s.t x ∷ []))) →
-        P (taker s p o) (placed_by s x p o)
+        ((is_there p || is_there o) ≡ false → P (pooled s.held.potential (s.held.outliers ++ newborn s.params.settings.dim s.t x ∷ []))) →
+        P (placed_by s x p o)
     go (some b) o f g h = old b f
     go none (some b) f g h = grown b g (le s.params.bm b.micro.body.cf.w)
     go none none f g h = h refl
-
--- whoever takes it
-pub placed_cases :
-    (P : Holdings → Type 0) (s : State) (x : List Float) →
-    ((b : Near DenMicro) → Tried s x s.held.potential b → P (pooled (set s.held.potential b.place b.micro) s.held.outliers)) →
-    ((b : Near DenMicro) → Tried s x s.held.outliers b → P (pooled (s.held.potential ++ b.micro ∷ []) (without b.place s.held.outliers))) →
-    ((b : Near DenMicro) → Tried s x s.held.outliers b → P (pooled s.held.potential (set s.held.outliers b.place b.micro))) →
-    (is_absorbed s x ≡ false → P (pooled s.held.potential (s.held.outliers ++ newborn s.params.settings.dim s.t x ∷ []))) →
-    P (placed s x)
-placed_cases P s x old up stays new = taken_cases (λ a h. P h) s x old up stays new

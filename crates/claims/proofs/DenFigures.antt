@@ -39,7 +39,7 @@ kept_newborn n dim t x c =
     record { body = body_birth n dim t x c; born = dated n t c }
 
 -- ---- a point taken
-abbrev pub Both : (n dim : ℕ) → Holdings → Type 0
+abbrev Both : (n dim : ℕ) → Holdings → Type 0
 Both n dim h = Each (Kept n dim) h.potential × Each (Kept n dim) h.outliers
 
 module _ (n : ℕ) (s : State) (x : List Float) (c : Counts n s.t) (g : Both n s.params.settings.dim s.held) where
@@ -86,7 +86,7 @@ module _ (n : ℕ) (s : State) (x : List Float) (c : Counts n s.t) (g : Both n s
       outliers : All s.held.outliers
       outliers = all_later s.held.outliers g.1
 
-  pub both_taken : Both (n + 1) (taken_of s x).params.settings.dim (taken_of s x).held
+  both_taken : Both (n + 1) (taken_of s x).params.settings.dim (taken_of s x).held
   both_taken =
       tick_cases denstream (taking s (placed s x)) (nearest_for s x) (λ (u : State). Both (n + 1) u.params.settings.dim u.held) (
         each_retain (Kept (n + 1) s.params.settings.dim) (potential_stays s.params (s.t ⊕ one)) (placed s x).potential both_placed.0,

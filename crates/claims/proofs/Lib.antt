@@ -5,8 +5,6 @@ pub mod Counts
 pub mod Finds
 pub mod Clocks
 pub mod Runs
-pub mod Tally
-pub mod Sums
 pub mod Early
 pub mod Periods
 pub mod Means
@@ -20,7 +18,6 @@ pub mod DbFresh
 pub mod DbNumbers
 pub mod DbRoom
 pub mod DbFigures
-pub mod DbTally
 pub mod DbLabels
 pub mod DbFinds
 pub mod DbTwins
@@ -32,5 +29,4 @@ pub mod DenTrials
 pub mod DenCases
 pub mod DenFresh
 pub mod DenFigures
-pub mod DenTally
 pub mod Theorem

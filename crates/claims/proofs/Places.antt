@@ -48,10 +48,6 @@ module _ {A : Type 0} where
   each_in P [] a e h = absurd h
   each_in P (b ∷ l) a e h = ⊎_elim (λ q. subst P (sym q) e.0) (λ k. each_in P l a e.1 k) h
 
-  pub in_each : (P : A → Type 0) (l : List A) → ((a : A) → In a l → P a) → Each P l
-  in_each P [] h = tt
-  in_each P (b ∷ l) h = (h b (inl refl), in_each P l (λ a i. h a (inr i)))
-
 -- ---- a test of each
 -- where the test passes, one stands that passes it
 pub test_there : {A : Type 0} (f : A → Bool) (l : List A) (i : ℕ) → get_or (map f l) i false ≡ true → (a : A) × At l i a × (f a ≡ true)

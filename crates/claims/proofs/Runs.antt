@@ -2,7 +2,7 @@
 use Prim.Native.Nat.{ℕ, ◌+◌}
 use mathlib.Core.Path.{◌≡◌, refl, sym, ap, ◌∙◌, subst}
 use mathlib.Core.Bool.{Bool, true, false, cond}
-use mathlib.Core.List.{List, [], ◌∷◌, ◌++◌, append_assoc, append-nil}
+use mathlib.Core.List.{List, [], ◌∷◌, ◌++◌}
 use native.Mathlib.Omega.{arith}
 use lib.Ieee.{Float}
 use Rattle.float.specs.Rounded.{whole}
@@ -24,7 +24,6 @@ use Rattle.model.specs.Laws.Stream.{tick_params, tick_drift, insert_cases}
 use Rattle.claims.specs.Clock.{Counts}
 use Rattle.claims.specs.History.{seen_if, seen_from, Rang}
 use Rattle.claims.specs.Whole.{Opens, after, told, seen}
-use Rattle.claims.specs.Taken.{taken_if, taken_from}
 use Rattle.claims.proofs.Clocks.{one_tick, starts, dated, dated_later}
 
 -- a list of inserts, then another
@@ -67,72 +66,36 @@ module _ {S P H : Type 0} (k : Kind S P H) (place : State P H → List Float →
       insert_cases k place s x (λ (r : Outcome (State P H)). Counts (n + one_if_done r.answer) r.stream.t)
       (λ a h. subst (λ (j : ℕ). Counts j s.t) (omega (arith, uncounted a h)) c) (λ l e. one_tick n s.t c l)
 
-  -- ---- what each point taken keeps, after n accepted inserts with the history h
-  module _ (takers : State P H → List Float → List ℕ) (J : ℕ → List ℕ → State P H → Type 0)
-      (tells :
-      (n : ℕ) (h : List ℕ) (s : State P H) (x : List Float) → Counts n s.t → place s x ≡ true → J n h s → J (n + 1) (h ++ takers s x) (taken_of k s x)) where
-    one_tells :
-        (n : ℕ) (h : List ℕ) (s : State P H) (x : List Float) →
-        Counts n s.t →
-        J n h s →
-        let r = insert_by k place s x in J (n + one_if_done r.answer) (h ++ taken_if r.answer (takers s x)) r.stream
-    one_tells n h s x c i =
-        insert_cases k place s x (λ (r : Outcome (State P H)). J (n + one_if_done r.answer) (h ++ taken_if r.answer (takers s x)) r.stream)
-        (λ a e.
-        subst (λ (l : List ℕ). J (n + one_if_done a) l s) (sym (ap (λ (b : Bool). h ++ cond b (takers s x) []) e ∙ append-nil h))
-        (subst (λ (j : ℕ). J j h s) (omega (arith, uncounted a e)) i))
-        (λ l e. tells n h s x c e i)
-
-    -- through a list of inserts, from n accepted on
-    pub run_tells :
-        (xs : List (List Float)) (n : ℕ) (h : List ℕ) (s : State P H) →
-        Counts n s.t →
-        J n h s →
-        let m = n + accepted_in (answers_of (insert_by k place) s xs) in
-        let u = run_of (insert_by k place) s xs in
-        Counts m u.t × J m (h ++ taken_from (insert_by k place) takers s xs) u
-    unfolding run_of answers_of taken_from
-    run_tells [] n h s c i =
-        let e : n ≡ n + 0 = omega arith in (
-          subst (λ (j : ℕ). Counts j s.t) e c,
-          subst (λ (l : List ℕ). J (n + 0) l s) (sym (append-nil h)) (subst (λ (j : ℕ). J j h s) e i),
-        )
-    run_tells (x ∷ xs) n h s c i =
-        let r : Outcome (State P H) = insert_by k place s x in
-        let a : ℕ = one_if_done r.answer in
-        let j : ℕ = accepted_in (answers_of (insert_by k place) r.stream xs) in
-        let u : State P H = run_of (insert_by k place) r.stream xs in
-        let new : List ℕ = taken_if r.answer (takers s x) in
-        let later : List ℕ = taken_from (insert_by k place) takers r.stream xs in
-        let e : (n + a) + j ≡ n + (a + j) = omega arith in
-        subst (λ (m : ℕ). Counts m u.t × J m (h ++ (new ++ later)) u) e
-        (subst (λ (l : List ℕ). Counts ((n + a) + j) u.t × J ((n + a) + j) l u) (append_assoc h new later)
-        (run_tells xs (n + a) (h ++ new) r.stream (clock_insert n s x c) (one_tells n h s x c i)))
-
-    -- from a fresh stream
-    pub always_tells :
-        (p : S) →
-        J 0 [] (fresh k p) →
-        (xs : List (List Float)) →
-        J (accepted_in (told k place p xs)) (taken_from (insert_by k place) takers (fresh k p) xs) (after k place p xs)
-    always_tells p i xs =
-        subst (λ (j : ℕ). J j (taken_from (insert_by k place) takers (fresh k p) xs) (after k place p xs)) (omega arith)
-        (run_tells xs 0 [] (fresh k p) starts i).1
-
-  -- ---- the same, of what does not speak of the history
+  -- ---- what each point taken keeps, after n accepted inserts
   module _ (I : ℕ → State P H → Type 0)
       (keeps : (n : ℕ) (s : State P H) (x : List Float) → Counts n s.t → place s x ≡ true → I n s → I (n + 1) (taken_of k s x)) where
+    one_keeps :
+        (n : ℕ) (s : State P H) (x : List Float) →
+        Counts n s.t →
+        I n s →
+        I (n + one_if_done (insert_by k place s x).answer) (insert_by k place s x).stream
+    one_keeps n s x c i =
+        insert_cases k place s x (λ (r : Outcome (State P H)). I (n + one_if_done r.answer) r.stream)
+        (λ a h. subst (λ (j : ℕ). I j s) (omega (arith, uncounted a h)) i) (λ l e. keeps n s x c e i)
+
     -- through a list of inserts, from n accepted on
     pub run_keeps :
         (xs : List (List Float)) (n : ℕ) (s : State P H) →
         Counts n s.t →
         I n s →
         let m = n + accepted_in (answers_of (insert_by k place) s xs) in Counts m (run_of (insert_by k place) s xs).t × I m (run_of (insert_by k place) s xs)
-    run_keeps xs n s c i = run_tells (λ s x. []) (λ n h s. I n s) (λ n h s x c e i. keeps n s x c e i) xs n [] s c i
+    unfolding run_of answers_of
+    run_keeps [] n s c i = let e : n ≡ n + 0 = omega arith in (subst (λ (j : ℕ). Counts j s.t) e c, subst (λ (j : ℕ). I j s) e i)
+    run_keeps (x ∷ xs) n s c i =
+        let a : ℕ = one_if_done (insert_by k place s x).answer in
+        let j : ℕ = accepted_in (answers_of (insert_by k place) (insert_by k place s x).stream xs) in
+        let u : State P H = run_of (insert_by k place) (insert_by k place s x).stream xs in
+        let e : (n + a) + j ≡ n + (a + j) = omega arith in
+        subst (λ (m : ℕ). Counts m u.t × I m u) e (run_keeps xs (n + a) (insert_by k place s x).stream (clock_insert n s x c) (one_keeps n s x c i))
 
     -- from a fresh stream
     pub always : (p : S) → I 0 (fresh k p) → (xs : List (List Float)) → I (accepted_in (told k place p xs)) (after k place p xs)
-    always p i xs = always_tells (λ s x. []) (λ n h s. I n s) (λ n h s x c e i. keeps n s x c e i) p i xs
+    always p i xs = subst (λ (j : ℕ). I j (after k place p xs)) (omega arith) (run_keeps xs 0 (fresh k p) starts i).1
 
   pub clock_counts : (p : S) (xs : List (List Float)) → Counts (accepted_in (told k place p xs)) (after k place p xs).t
   clock_counts p xs =

@@ -10,7 +10,7 @@ use Rattle.drift.specs.declared.Nearest.TheVariants.{Nothing}
 use Rattle.model.specs.Limits.{micros_most}
 use Rattle.model.specs.Periods.{Period}
 use Rattle.model.specs.Stream.{State, Kind, fresh}
-use Rattle.model.specs.Laws.Stream.{refused_nothing, same_sums, nobody_counts}
+use Rattle.model.specs.Laws.Stream.{refused_nothing}
 use Rattle.model.specs.DenState.{Settings}
 use Rattle.model.specs.Dbstream as db
 use Rattle.model.specs.Denstream as den
@@ -22,7 +22,6 @@ use Rattle.claims.proofs.Early.{window_takes}
 use Rattle.claims.proofs.Periods.{gap_whole, prune_whole, divides, due_is, need_exact}
 use Rattle.claims.proofs.DbFresh as db-fresh
 use Rattle.claims.proofs.DbFigures as db-figures
-use Rattle.claims.proofs.DbTally as db-tally
 use Rattle.claims.proofs.DbRoom.{fits, micros_within}
 use Rattle.claims.proofs.DbNumbers.{never_reused_lem}
 use Rattle.claims.proofs.DbLabels.{labels_tell}
@@ -31,14 +30,13 @@ use Rattle.claims.proofs.DbTwins.{same_refusals, same_holdings}
 use Rattle.claims.proofs.DbTogether.{stay_together}
 use Rattle.claims.proofs.DenFresh as den-fresh
 use Rattle.claims.proofs.DenFigures as den-figures
-use Rattle.claims.proofs.DenTally as den-tally
 use Rattle.claims.proofs.DenFinds as den-finds
 use Rattle.claims.proofs.DenLabels.{groups_told}
 
 -- ---- of either stream
 module _ {S P H : Type 0} (k : Kind S P H) (place : State P H → List Float → Bool) where
   calls : Calls k place
-  calls = record { opened = opened_fresh k; refused = refused_nothing k place; sums = same_sums k; nobody = nobody_counts k }
+  calls = record { opened = opened_fresh k; refused = refused_nothing k place }
 
   -- which has nothing near where it is fresh, and whose period is whole
   one_run :
@@ -71,7 +69,6 @@ dbstream =
         holdings = db-fresh.from_fresh p xs;
         figures = db-figures.figures p xs;
         fits = fits p xs;
-        counts = db-tally.counts_told p xs;
         never_reused = never_reused_lem p xs;
       };
       two = λ p q opens opens' laxer xs. record {
@@ -102,7 +99,6 @@ denstream =
         finds = den-finds.told (den-claim.after p xs) (potential_few p xs);
         holdings = den-fresh.from_fresh p xs;
         figures = den-figures.figures p xs;
-        counts = den-tally.counts_told p xs (potential_few p xs);
       };
       calls = calls den.denstream den.has_place;
     }

@@ -1,6 +1,6 @@
 -- Demand 3 for DBSTREAM, as document 01 says it under "A whole run". Statements only; proofs/Theorem proves them.
-use Rattle.std.specs.Prelude.{ℕ, ◌+◌, ◌-◌, ◌*◌, ◌%◌, ◌^◌, ◌≤◌, ◌<◌, ◌≡◌, ◌↔◌, ◌⊎◌, ◌≢◌, true, false, cond, T, ℤ, pos, negsuc, length, Float}
-use mathlib.Core.List.{List, [], ◌∷◌, ◌++◌, map, foldl}
+use Rattle.std.specs.Prelude.{ℕ, ◌+◌, ◌-◌, ◌*◌, ◌%◌, ◌^◌, ◌≤◌, ◌<◌, ◌≡◌, ◌↔◌, ◌⊎◌, ◌≢◌, true, false, T, ℤ, pos, negsuc, length, Float}
+use mathlib.Core.List.{List, ◌++◌, map, foldl}
 use Rattle.std.specs.Float.Ieee.{le}
 use Rattle.lists.specs.Each.{Each}
 use Rattle.lists.specs.Retain.{retain}
@@ -13,8 +13,8 @@ use Rattle.model.specs.declared.answers.Insertion.{Insertion}
 use Rattle.model.specs.Limits.{micros_most, links_most}
 use Rattle.model.specs.Run.{accepted_in}
 use Rattle.model.specs.Periods.{Period}
-use Rattle.model.specs.DbState.{Settings, Params, Holdings, State, params_of}
-use Rattle.model.specs.DbInsert.{id_of, pairs_of, gain_in, absent, neighbours_of, is_absorbed, joined}
+use Rattle.model.specs.DbState.{Settings, State, params_of}
+use Rattle.model.specs.DbInsert.{id_of, pairs_of, gain_in, absent, neighbours_of, joined}
 use Rattle.model.specs.DbCluster.{is_strong, is_dense}
 use Rattle.model.specs.Dbstream.{dbstream, has_place, cluster_of}
 use Rattle.claims.specs.Lists.{At, In, PairBefore, Ascending}
@@ -22,7 +22,6 @@ use Rattle.claims.specs.Clock.{Counts}
 use Rattle.claims.specs.Weighed.{Weighed, KeptBody}
 use Rattle.claims.specs.Finds.{FindsTold}
 use Rattle.claims.specs.Whole as whole
-use Rattle.claims.specs.Taken.{Names, CountsTold}
 
 -- ---- labels
 -- "strong means faded weight ≥ min_weight"
@@ -165,17 +164,6 @@ after = whole.after dbstream has_place
 abbrev pub told : Settings → List (List Float) → List Insertion
 told = whole.told dbstream has_place
 
--- Document 02, item 1: a micro-cluster is known by its creation number; its neighbours take a point, or the one that it bears
-abbrev pub names : Names Params Holdings DbMicro
-names =
-    record {
-      held = λ h. h.micros;
-      labelled = λ h. h.micros;
-      body = λ m. m.body;
-      name = λ m. m.id.0;
-      takers = λ s x. cond (is_absorbed s x) (map (λ (m : DbMicro). m.id.0) (neighbours_of s x)) (s.held.next ∷ []);
-    }
-
 -- of one stream, after any list of inserts
 pub record OneStream (p : Settings) (xs : List (List Float)) : Type 0 where
   -- as of either stream: settings that stay, when a cleanup is due, the drift report
@@ -188,8 +176,6 @@ pub record OneStream (p : Settings) (xs : List (List Float)) : Type 0 where
   pub holdings : FromFresh (accepted_in (told p xs)) (after p xs)
   pub figures : Figures (accepted_in (told p xs)) (after p xs)
   pub fits : Fits (after p xs)
-  -- what its micro-clusters and families count
-  pub counts : CountsTold dbstream has_place names p xs
   -- a number given out before some of the inserts and live after them was live before them: no number is used twice
   pub never_reused :
       (earlier later : List (List Float)) →

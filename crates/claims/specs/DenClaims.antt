@@ -1,6 +1,5 @@
 -- Demand 3 for DenStream, as document 01 says it under "A whole run". Statements only; proofs/Theorem proves them.
-use Rattle.std.specs.Prelude.{ℕ, ◌+◌, ◌-◌, ◌^◌, ◌≤◌, ◌<◌, ◌≡◌, ◌↔◌, ◌⊎◌, true, false, List, [], ◌∷◌, ◌++◌, map, ℤ, pos, negsuc, length, get_or, Float}
-use Rattle.std.proofs.Math.Option.{Option, none, some}
+use Rattle.std.specs.Prelude.{ℕ, ◌+◌, ◌-◌, ◌^◌, ◌≤◌, ◌<◌, ◌≡◌, ◌↔◌, ◌⊎◌, true, false, List, [], map, ℤ, pos, negsuc, length, get_or, Float}
 use Rattle.std.specs.Float.Ieee.{neg, le, eq}
 use Rattle.lists.specs.Each.{Each}
 use Rattle.float.specs.Rounded.{◌⊕◌, ◌⊖◌, ◌⊗◌, nought, one, whole, Exact}
@@ -11,18 +10,14 @@ use Rattle.model.specs.declared.micro.DenMicro.{DenMicro}
 use Rattle.model.specs.declared.answers.Insertion.{Insertion}
 use Rattle.model.specs.Limits.{micros_most, clock_most}
 use Rattle.model.specs.Run.{accepted_in}
-use Rattle.model.specs.Fading.{ticks_of}
-use Rattle.model.specs.Nearest.{Near}
 use Rattle.model.specs.Periods.{Period}
-use Rattle.model.specs.DenState.{Settings, Params, Holdings, State, params_of}
-use Rattle.model.specs.DenInsert.{trial_in}
+use Rattle.model.specs.DenState.{Settings, State, params_of}
 use Rattle.model.specs.DenCluster.{close, faded_weights}
 use Rattle.model.specs.Denstream.{denstream, has_place, cluster_of}
 use Rattle.claims.specs.Clock.{Counts, Dated}
 use Rattle.claims.specs.Weighed.{KeptBody}
 use Rattle.claims.specs.Finds.{FindsTold}
 use Rattle.claims.specs.Whole as whole
-use Rattle.claims.specs.Taken.{Names, CountsTold}
 
 -- ---- labels
 -- "A centre is a potential one's mean"
@@ -99,26 +94,6 @@ after = whole.after denstream has_place
 abbrev pub told : Settings → List (List Float) → List Insertion
 told = whole.told denstream has_place
 
--- Document 02, item 1: a micro-cluster is known by the tick of its birth
-abbrev pub born_at : DenMicro → ℕ
-born_at m = ticks_of m.t0
-
--- the one that takes a point: the potential one or the outlier that stood the trial, else the one that is born
-abbrev pub taker : State → (potential outlier : Option (Near DenMicro)) → ℕ
-taker s (some b) o = born_at b.micro
-taker s none (some b) = born_at b.micro
-taker s none none = ticks_of s.t
-
-abbrev pub names : Names Params Holdings DenMicro
-names =
-    record {
-      held = λ h. h.potential ++ h.outliers;
-      labelled = λ h. h.potential;
-      body = λ m. m.body;
-      name = born_at;
-      takers = λ s x. taker s (trial_in s x s.held.potential) (trial_in s x s.held.outliers) ∷ [];
-    }
-
 -- of one stream, after any list of inserts
 pub record OneStream (p : Settings) (xs : List (List Float)) : Type 0 where
   -- as of either stream: settings that stay, when the pools are pruned, the drift report
@@ -138,8 +113,6 @@ pub record OneStream (p : Settings) (xs : List (List Float)) : Type 0 where
   pub finds : FindsTold denstream (after p xs) (length (after p xs).held.potential)
   pub holdings : FromFresh (accepted_in (told p xs)) (after p xs)
   pub figures : Figures (accepted_in (told p xs)) (after p xs)
-  -- what its micro-clusters and families count
-  pub counts : CountsTold denstream has_place names p xs
 
 -- for all settings that open, and all lists of inserts
 pub record Demand3 : Type 0 where

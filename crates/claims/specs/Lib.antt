@@ -5,7 +5,6 @@ pub mod Weighed
 pub mod History
 pub mod Finds
 pub mod Whole
-pub mod Taken
 pub mod DbClaims
 pub mod DenClaims
 pub mod Laws

@@ -1,5 +1,5 @@
 -- A stored weight or link value, and a micro-cluster's body, of any stream. Definitions only.
-use Rattle.std.specs.Prelude.{ℕ, ◌≤◌, ◌≡◌, T, Float, length}
+use Rattle.std.specs.Prelude.{ℕ, ◌≡◌, T, Float, length}
 use Rattle.std.specs.Float.Ieee.{le}
 use Rattle.float.specs.Rounded.{nought, one, whole}
 use Rattle.model.specs.declared.body.Body.{Body}
@@ -14,9 +14,7 @@ pub record Weighed (n : ℕ) (w last : Float) : Type 0 where
   -- faded to any clock, by any lambda: at least 0 and at most what is stored
   pub faded : (lambda t : Float) → T (le nought (faded_to lambda t w last)) × T (le (faded_to lambda t w last) w)
 
--- of a micro-cluster: its mean has dim coordinates, its weight is such a one, and it counts from 1 to n points
+-- of a micro-cluster: its mean has dim coordinates, and its weight is such a one
 pub record KeptBody (n dim : ℕ) (b : Body) : Type 0 where
   pub mean : length b.cf.mean ≡ dim
   pub weight : Weighed n b.cf.w b.last
-  pub born : 1 ≤ b.count
-  pub few : b.count ≤ n

@@ -1,9 +1,8 @@
 -- Document 01, "A whole run", of a stream of any kind. Definitions and statements only; proofs/Theorem proves them of both streams.
-use Rattle.std.specs.Prelude.{◌≡◌, ◌≢◌, Bool, List, ℤ, Float}
+use Rattle.std.specs.Prelude.{◌≡◌, ◌≢◌, Bool, List, Float}
 use Rattle.std.specs.Float.{binary64}
 use Rattle.std.specs.Float.Ieee.{eq, rem}
 use Rattle.float.specs.Rounded.{nought}
-use Rattle.lists.specs.Each.{Each}
 use Rattle.adwin.specs.Window.{update_of}
 use Rattle.drift.specs.Monitor.{new_of}
 use Rattle.drift.specs.History.{Seen, watch_of, Heard}
@@ -12,7 +11,7 @@ use Rattle.model.specs.declared.answers.Insertion.{Insertion}
 use Rattle.model.specs.declared.answers.Insertion.TheVariants.{Done}
 use Rattle.model.specs.Fading.{is_multiple}
 use Rattle.model.specs.Run.{run_of, answers_of, accepted_in}
-use Rattle.model.specs.Stream.{State, Kind, asked, fresh, open_of, insert_by, count_from_newest, count_from_oldest}
+use Rattle.model.specs.Stream.{State, Kind, asked, fresh, open_of, insert_by}
 use Rattle.claims.specs.History.{seen_from, Rang}
 
 -- an opening with these settings is accepted
@@ -54,7 +53,3 @@ module _ {S P H : Type 0} (k : Kind S P H) (place : State P H → List Float →
     pub opened : (p : S) → Opens k p → (open_of k p).stream ≡ fresh k p
     -- "a refused insert changes nothing"
     pub refused : (s : State P H) (x : List Float) → (insert_by k place s x).answer ≢ Done → (insert_by k place s x).stream ≡ s
-    -- Document 02, item 1: "Both sums must be shown equal"
-    pub sums : (s : State P H) (label : ℤ) → count_from_newest k s label ≡ count_from_oldest k s label
-    -- "A label that nobody carries counts 0"
-    pub nobody : (s : State P H) (label : ℤ) → Each (λ (l : ℤ). l ≢ label) s.labels → count_from_newest k s label ≡ 0

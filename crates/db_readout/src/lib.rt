@@ -4,7 +4,7 @@ mod connected;
 ghost use Rattle.std.specs.Prelude.{◌≡◌};
 ghost use Rattle.model.specs.Answers.{prediction_said};
 ghost use Rattle.model.specs.ReadOut.{clusters_in};
-ghost use Rattle.model.specs.Dbstream.{predict_of, labels_read_of, statistics_of, count_from_newest, count_from_oldest};
+ghost use Rattle.model.specs.Dbstream.{predict_of, labels_read_of, statistics_of};
 ghost use Rattle.readout.specs.Told.{labels_told, statistics_told};
 ghost use Rattle.dbstream.specs.View.{view};
 
@@ -70,24 +70,4 @@ pub fn micro_stats(
         weights,
         radii,
     )
-}
-
-// The screen: how many points a label's family counts, added from its newest member.
-pub fn count_from_newest(stream: DbStream, label: i64) -> u64
-    ensures { result ≡ count_from_newest (view stream) label }
-{
-    let micros = stream.micros;
-    let bodies = db_micro::bodies(micros, stream.count);
-    let labels = stream.labels;
-    members::count_from_newest(bodies, stream.count, labels, stream.label_count, label)
-}
-
-// The printer: the same, added from its oldest member.
-pub fn count_from_oldest(stream: DbStream, label: i64) -> u64
-    ensures { result ≡ count_from_oldest (view stream) label }
-{
-    let micros = stream.micros;
-    let bodies = db_micro::bodies(micros, stream.count);
-    let labels = stream.labels;
-    members::count_from_oldest(bodies, stream.count, labels, stream.label_count, label)
 }

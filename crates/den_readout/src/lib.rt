@@ -2,7 +2,7 @@
 ghost use Rattle.std.specs.Prelude.{◌≡◌};
 ghost use Rattle.model.specs.Answers.{prediction_said};
 ghost use Rattle.model.specs.ReadOut.{clusters_in};
-ghost use Rattle.model.specs.Denstream.{predict_of, labels_read_of, statistics_of, count_from_newest, count_from_oldest};
+ghost use Rattle.model.specs.Denstream.{predict_of, labels_read_of, statistics_of};
 ghost use Rattle.readout.specs.Told.{labels_told, statistics_told};
 ghost use Rattle.denstream.specs.View.{view};
 
@@ -69,26 +69,4 @@ pub fn potential_stats(
         weights,
         radii,
     )
-}
-
-// The screen: how many points a label's family counts, added from its newest member.
-pub fn count_from_newest(stream: DenStream, label: i64) -> u64
-    ensures { result ≡ count_from_newest (view stream) label }
-{
-    let n = den_placement::potential_held(stream.potential_count);
-    let potential = stream.potential;
-    let bodies = den_pool::bodies(potential, n);
-    let labels = stream.labels;
-    members::count_from_newest(bodies, n, labels, stream.label_count, label)
-}
-
-// The printer: the same, added from its oldest member.
-pub fn count_from_oldest(stream: DenStream, label: i64) -> u64
-    ensures { result ≡ count_from_oldest (view stream) label }
-{
-    let n = den_placement::potential_held(stream.potential_count);
-    let potential = stream.potential;
-    let bodies = den_pool::bodies(potential, n);
-    let labels = stream.labels;
-    members::count_from_oldest(bodies, n, labels, stream.label_count, label)
 }

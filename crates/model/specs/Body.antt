@@ -1,5 +1,5 @@
--- Documents 01 and 02: what both streams keep of a micro-cluster, and do to it. Definitions only.
-use Rattle.std.specs.Prelude.{ℕ, ◌+◌, ◌%◌, ◌^◌, cond, List, Float}
+-- Document 01: what both streams keep of a micro-cluster, and do to it. Definitions only.
+use Rattle.std.specs.Prelude.{ℕ, cond, List, Float}
 use Rattle.std.specs.Float.Ieee.{lt}
 use Rattle.float.specs.Rounded.{◌⊘◌, nought}
 use Rattle.sqrt.specs.Root.{sqrt_of}
@@ -9,17 +9,13 @@ use Rattle.feature.specs.Fade.{fade_of}
 use Rattle.model.specs.declared.body.Body.{Body}
 use Rattle.model.specs.Fading.{faded_to}
 
--- Document 02, item 1: "how many points it absorbed", one more; counts are 64 bits wide
-abbrev pub one_more : ℕ → ℕ
-one_more count = (count + 1) % 2 ^ 64
-
--- of one point: "1 at birth"
+-- of one point
 abbrev pub birth : (dim : ℕ) (t : Float) → List Float → Body
-birth dim t x = record { cf = pushed (empty dim) x; last = t; count = 1 }
+birth dim t x = record { cf = pushed (empty dim) x; last = t }
 
 -- "fades to t and absorbs the point"
 abbrev pub absorbing : (lambda t : Float) → List Float → Body → Body
-absorbing lambda t x b = record { cf = pushed (decayed b.cf (fade_of lambda t b.last)) x; last = t; count = one_more b.count }
+absorbing lambda t x b = record { cf = pushed (decayed b.cf (fade_of lambda t b.last)) x; last = t }
 
 -- the weight, faded to the clock t
 abbrev pub faded_weight : (lambda t : Float) → Body → Float
@@ -35,4 +31,4 @@ radius_of b = cond (lt nought b.cf.w) (sqrt_of (b.cf.ssd ⊘ b.cf.w)) nought
 
 -- one that is kept in 15 places, as that of dim coordinates which it is
 abbrev pub body_in : (dim : ℕ) → Body → Body
-body_in dim b = record { cf = within dim b.cf; last = b.last; count = b.count }
+body_in dim b = record { cf = within dim b.cf; last = b.last }

@@ -73,9 +73,3 @@ labels_read_of = stream.labels_read_of dbstream
 
 abbrev pub statistics_of : State → (centres weights radii : List Float) → Statistics
 statistics_of = stream.statistics_of dbstream
-
-abbrev pub count_from_newest : State → (label : ℤ) → ℕ
-count_from_newest = stream.count_from_newest dbstream
-
-abbrev pub count_from_oldest : State → (label : ℤ) → ℕ
-count_from_oldest = stream.count_from_oldest dbstream

@@ -6,7 +6,6 @@ pub mod Periods
 pub mod Tp
 pub mod Insert
 pub mod Open
-pub mod Members
 pub mod Stream
 pub mod Numbers
 pub mod Examples

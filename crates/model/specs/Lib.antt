@@ -10,7 +10,6 @@ pub mod Ticking
 pub mod Periods
 pub mod Nearest
 pub mod Families
-pub mod Members
 pub mod ReadOut
 pub mod Numbers
 pub mod Outcome

@@ -8,7 +8,6 @@ use Rattle.model.specs.Any.{any}
 use Rattle.model.specs.Questions.{first_no}
 use Rattle.model.specs.Body.{faded_weight, distance_to, radius_of}
 use Rattle.model.specs.Nearest.{Near, nearest_of}
-use Rattle.model.specs.Members.{same_label}
 
 -- ---- predict
 -- "or the nearest .. hasn't a squared distance at most the radius squared; else its label"
@@ -47,7 +46,8 @@ labels_read due lent =
 
 -- `n_clusters`: how many different labels there are, −1 left out
 abbrev pub same_family : ℤ → ℤ → Bool
-same_family (pos a) b = same_label (pos a) b
+same_family (pos a) (pos b) = a == b
+same_family (pos a) (negsuc b) = false
 same_family (negsuc a) b = false
 
 unfoldable pub clusters_in : List ℤ → ℕ

@@ -13,8 +13,6 @@ use Rattle.model.specs.Answers.{Said}
 use Rattle.model.specs.Questions.{first_no, insertion_asked}
 use Rattle.model.specs.Fading.{is_multiple}
 use Rattle.model.specs.Outcome.{Opened, Outcome, opened, outcome}
-use Rattle.model.specs.Members as members
-use Rattle.model.specs.Members.{from_newest, from_oldest}
 use Rattle.model.specs.ReadOut as read
 use Rattle.model.specs.ReadOut.{LabelsRead, Statistics, labels_read, statistics_read}
 
@@ -128,14 +126,3 @@ module _ {S P H : Type 0} (k : Kind S P H) where
 
   abbrev pub statistics_of : State P H → (centres weights radii : List Float) → Statistics
   statistics_of s = statistics_read (k.lambda s.params) s.t (k.bodies_of s.held)
-
-  -- Document 02, item 1: what each member of a family counts, oldest first
-  abbrev pub counts_of : State P H → (label : ℤ) → List ℕ
-  counts_of s label = members.counts_of label s.labels (k.bodies_of s.held)
-
-  -- "The screen adds from the newest member, the printer from the oldest."
-  abbrev pub count_from_newest : State P H → (label : ℤ) → ℕ
-  count_from_newest s label = from_newest (counts_of s label)
-
-  abbrev pub count_from_oldest : State P H → (label : ℤ) → ℕ
-  count_from_oldest s label = from_oldest 0 (counts_of s label)

@@ -7,23 +7,21 @@ ghost use Rattle.model.specs.Body.{birth, absorbing, faded_weight, radius_of};
 use crate::fading::faded;
 use feature::{MAX_DIM, Spherical};
 
-// Its feature, the clock at its latest birth or absorption, and how many points it absorbed, 1 at birth.
+// Its feature, and the clock at its latest birth or absorption.
 #[derive(Drop)]
 pub struct Body {
     pub cf: Spherical,
     pub last: f64,
-    pub count: u64,
 }
 
 impl Body {
     // For a place that holds none.
     pub fn new() -> Body
-        ensures { result ≡ record { cf = empty max_dim; last = nought; count = 0 } }
+        ensures { result ≡ record { cf = empty max_dim; last = nought } }
     {
         Body {
             cf: Spherical::new(),
             last: 0.0,
-            count: 0,
         }
     }
 
@@ -35,11 +33,10 @@ impl Body {
         Body {
             cf: none.push(x, dim),
             last: t,
-            count: 1,
         }
     }
 
-    // Faded to t, with the point, and one more counted.
+    // Faded to t, with the point.
     pub fn absorbing(self, x: [f64; MAX_DIM], dim: usize, lambda: f64, t: f64) -> Body
         ensures { result ≡ absorbing lambda t (take dim x) self }
     {
@@ -48,7 +45,6 @@ impl Body {
         Body {
             cf: old.push(x, dim),
             last: t,
-            count: std::num::wrapping_add_u64(self.count, 1),
         }
     }
 

@@ -1,10 +1,10 @@
 -- The labels counted, each where it stands last. Assumes nothing.
-use Prim.Native.Nat.{ℕ, ◌+◌, ◌^◌, ◌≤◌, ◌<◌}
+use Prim.Native.Nat.{ℕ, suc, ◌+◌, ◌-◌, ◌^◌, ◌≤◌, ◌<◌}
 use mathlib.Core.Path.{◌≡◌, refl, sym, ◌∙◌}
 use mathlib.Core.Bool.{Bool, true, false, not, ◌&&◌, cond, true≢false}
 use mathlib.Core.List.{List}
 use native.Mathlib.Omega.{arith}
-use borrow.Author.Tests.{le-leb}
+use borrow.Author.Tests.{le-leb, ne_eqb}
 use lib.Dec.{eqb}
 use lib.IntN.{ℤ, pos, negsuc}
 use lib.Signed.{mag, le_z}
@@ -15,12 +15,13 @@ use Rattle.lists.specs.Laws.Rest.{rest_step, rest_end}
 use Rattle.lists.specs.Rest.{rest}
 use Rattle.model.specs.Any.{any}
 use Rattle.model.specs.ReadOut.{same_family, clusters_in}
-use Rattle.model.specs.Laws.Members.{label_told}
 
 -- the code's tests of two labels
 pub same_told : (a b : ℤ) → mag a < 2 ^ 63 → mag b < 2 ^ 63 → le_z (pos 0) a ≡ true → eqb (of_z w64 a) (of_z w64 b) ≡ same_family a b
-same_told (pos a) b ha hb t = label_told (pos a) b ha hb
-same_told (negsuc a) b ha hb t = absurd (true≢false (sym t))
+same_told (pos a) (pos b) ha hb t = refl
+same_told (pos a) (negsuc b) ha hb t = ne_eqb a (2 ^ 64 - suc b) (λ e. omega arith)
+same_told (negsuc a) (pos b) ha hb t = absurd (true≢false (sym t))
+same_told (negsuc a) (negsuc b) ha hb t = absurd (true≢false (sym t))
 
 pub other_told : (a b : ℤ) → le_z (pos 0) a ≡ false → false ≡ same_family a b
 other_told (pos a) b t = absurd (true≢false (sym (le-leb 0 a (omega arith)) ∙ t))

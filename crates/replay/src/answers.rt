@@ -94,8 +94,3 @@ pub fn say_counts(dim: usize, micros: usize, families: usize) {
     let line = number(start(b"counts"), dim as u64);
     end(number(number(line, micros as u64), families as u64));
 }
-
-// Operation 15: what a family counts, added from its newest member and from its oldest.
-pub fn say_family(newest: u64, oldest: u64) {
-    end(number(number(start(b"family"), newest), oldest));
-}

@@ -2,12 +2,11 @@
 use crate::figures::{end_with, feature};
 use crate::input::Record;
 use crate::lent::{label_places, places};
-use crate::output::{Line, double, end, number, start, whole};
+use crate::output::{Line, double, number, start, whole};
 use crate::statistics::{CENTRES, say_statistics};
 use crate::{answers, rows};
 use dbstream::DbStream;
 use model::{DbMicro, DbSettings, LINKS, Link, MICROS, MicroId};
-use words::signed_of;
 
 fn settings(r: Record) -> DbSettings {
     let xs = r.xs;
@@ -83,18 +82,6 @@ fn connectivity(s: DbStream, a: u64, b: u64) {
     answers::say_connectivity(db_readout::connectivity(s, MicroId(a), MicroId(b)));
 }
 
-fn family(s: DbStream, label: i64) {
-    let newest = db_readout::count_from_newest(s, label);
-    answers::say_family(newest, db_readout::count_from_oldest(s, label));
-}
-
-// What each micro-cluster counts.
-fn taken(s: DbStream) {
-    let held = s.micros;
-    let bodies = db_micro::bodies(held, s.count);
-    end(rows::counts(start(b"taken"), bodies, s.count));
-}
-
 fn counts(s: DbStream) {
     answers::say_counts(s.dim(), s.micro_count(), db_readout::n_clusters(s));
 }
@@ -165,8 +152,6 @@ fn read(s: DbStream, r: Record) {
         8 => connectivity(s, r.a as u64, r.b as u64),
         9 => answers::say_drift(s.drift()),
         13 => figures(s),
-        15 => family(s, signed_of(r.a as u64)),
-        21 => taken(s),
         _ => counts(s),
     }
 }

@@ -2,12 +2,11 @@
 use crate::figures::{end_with, feature};
 use crate::input::Record;
 use crate::lent::{label_places, places};
-use crate::output::{Line, end, number, start, whole};
+use crate::output::{Line, number, start, whole};
 use crate::statistics::{CENTRES, say_statistics};
 use crate::{answers, rows};
 use denstream::DenStream;
 use model::{DenMicro, DenSettings, MICROS};
-use words::signed_of;
 
 fn settings(r: Record) -> DenSettings {
     let xs = r.xs;
@@ -86,25 +85,6 @@ fn statistics(s: DenStream, c: usize, w: usize, r: usize) {
     );
 }
 
-fn family(s: DenStream, label: i64) {
-    let newest = den_readout::count_from_newest(s, label);
-    answers::say_family(newest, den_readout::count_from_oldest(s, label));
-}
-
-// What each potential one counts.
-fn with_taken(s: DenStream) -> Line {
-    let held = s.potential;
-    let bodies = den_pool::bodies(held, s.potential_count);
-    rows::counts(start(b"taken"), bodies, s.potential_count)
-}
-
-// What each micro-cluster counts, potential ones first.
-fn taken(s: DenStream) {
-    let held = s.outliers;
-    let bodies = den_pool::bodies(held, s.outlier_count);
-    end(rows::counts(with_taken(s), bodies, s.outlier_count));
-}
-
 fn counts(s: DenStream) {
     answers::say_counts(s.dim(), s.potential_count(), den_readout::n_clusters(s));
 }
@@ -152,8 +132,6 @@ fn read(s: DenStream, r: Record) {
         8 => answers::say_none(),
         9 => answers::say_drift(s.drift()),
         13 => figures(s),
-        15 => family(s, signed_of(r.a as u64)),
-        21 => taken(s),
         _ => counts(s),
     }
 }

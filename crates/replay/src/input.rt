@@ -10,8 +10,8 @@ const OPERANDS: usize = 64;
 // The operation of no record: the program ends.
 pub const STOP: u64 = 0;
 
-// The operation of a record that is not well formed: none has this number.
-const BAD: u64 = 0xffff_ffff_ffff_ffff;
+// The operation of a record that is not well formed.
+const BAD: u64 = 15;
 
 // The first three operands as whole numbers, and all of them as doubles.
 #[derive(Drop)]
@@ -75,8 +75,8 @@ fn is_known(op: u64, count: usize) -> bool {
     match op {
         1 | 2 => count == 5,
         3 | 6 => true,
-        4 | 9 | 12 | 13 | 14 | 21 => count == 0,
-        5 | 10 | 11 | 15 => count == 1,
+        4 | 9 | 12 | 13 | 14 => count == 0,
+        5 | 10 | 11 => count == 1,
         7 => count == 3,
         8 => count == 2,
         _ => false,

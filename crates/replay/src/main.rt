@@ -1,5 +1,5 @@
 // Drives every public call from standard input and prints each answer on a line, so that the library can be compared,
-// call by call, with the Rust and with any other implementation of documents 01 and 02. docs/REPLAY.md has the records and the lines.
+// call by call, with the Rust and with any other implementation of document 01. docs/REPLAY.md has the records and the lines.
 // The stored script, stdin, is seed 0 of the scripts db and den of tools/: document 01's readings to try and the open points. Its answers,
 // stdout, are the oracle's: the Rust's where the Rust speaks, document 01's questions in front of it where not.
 mod answers;

@@ -1,6 +1,6 @@
 // Rows of figures in a line.
 use crate::output::{Line, double, label, number};
-use model::{Body, MICROS};
+use model::MICROS;
 
 // How many labels, then each.
 pub fn labels(line: Line, xs: [i64; MICROS], count: usize) -> Line {
@@ -21,19 +21,6 @@ pub fn doubles(line: Line, xs: &[f64], count: usize) -> Line {
     let mut i: usize = 0;
     while i < n {
         out = double(out, xs[i]);
-        i += 1;
-    }
-    out
-}
-
-// How many micro-clusters, then what each counts.
-pub fn counts(line: Line, bodies: [Body; MICROS], count: usize) -> Line {
-    let n = lists::cut(count, MICROS);
-    let mut out = number(line, n as u64);
-    let mut i: usize = 0;
-    while i < n {
-        let b = bodies[i];
-        out = number(out, b.count);
         i += 1;
     }
     out

@@ -1,5 +1,5 @@
 -- Words of 8 bytes, "all little-endian". Definitions only.
-use Rattle.std.specs.Prelude.{ℕ, zero, suc, ◌+◌, ◌-◌, ◌*◌, ◌^◌, cond, List, ltb, ℤ, pos, negsuc, get_or}
+use Rattle.std.specs.Prelude.{ℕ, zero, suc, ◌+◌, ◌*◌, List, get_or}
 
 -- the n bytes from a place on, the first of the least weight; a byte past the end counts 0
 unfoldable pub little_endian : ℕ → List ℕ → ℕ → ℕ
@@ -8,7 +8,3 @@ little_endian (suc n) bytes at = get_or bytes at 0 + 256 * little_endian n bytes
 
 abbrev pub word_at : List ℕ → ℕ → ℕ
 word_at bytes at = little_endian 8 bytes at
-
--- "a label, in two's complement": the words from 2^63 on are −2^63 to −1
-abbrev pub signed_of : ℕ → ℤ
-signed_of word = cond (ltb word (2 ^ 63)) (pos word) (negsuc (2 ^ 64 - 1 - word))

@@ -1,6 +1,6 @@
-// Words of 8 bytes, little-endian, as numbers, signed numbers and doubles, and a double's text: what the programs read and print.
+// Words of 8 bytes, little-endian, as numbers and as doubles, and a double's text: what the programs read and print.
 mod text;
 mod word;
 
 pub use text::{Text, double_text};
-pub use word::{double_of, signed_of, word_at};
+pub use word::{double_of, word_at};

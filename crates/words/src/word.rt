@@ -1,8 +1,8 @@
-// A word in a row of bytes; the double that has it as bits, and the signed number that it is.
+// A word in a row of bytes, and the double that has it as bits.
 ghost use Rattle.std.specs.Prelude.{◌≡◌, ◌<◌, get_or};
 ghost use Rattle.std.specs.Float.{binary64};
 ghost use Rattle.std.specs.Float.Ieee.{of_bits};
-ghost use Rattle.words.specs.Word.{word_at, signed_of};
+ghost use Rattle.words.specs.Word.{word_at};
 
 // The byte at a place, 0 past the end.
 fn byte_at(bytes: &[u8], at: usize) -> u64
@@ -38,14 +38,4 @@ pub fn double_of(word: u64) -> f64
         return 0.0 / 0.0;
     }
     f64::from_bits(word)
-}
-
-// The number that a word is in two's complement, as labels are passed.
-pub fn signed_of(word: u64) -> i64
-    ensures { result ≡ signed_of word }
-{
-    if word < 0x8000_0000_0000_0000 {
-        return word as i64;
-    }
-    -1 - (0xffff_ffff_ffff_ffff - word) as i64
 }

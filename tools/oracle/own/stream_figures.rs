@@ -83,11 +83,6 @@ impl DbStream<f64, Feature> {
         self.micros[place].id
     }
 
-    /// Each micro-cluster's creation number and latest tick, in list order.
-    pub fn latest(&self) -> Vec<(u64, f64)> {
-        self.micros.iter().map(|m| (m.id, m.last_t)).collect()
-    }
-
     pub fn next_id(&self) -> u64 {
         self.next_id
     }
@@ -208,11 +203,6 @@ impl DenStream<f64, Feature> {
     /// Both pools together.
     pub fn held(&self) -> usize {
         self.p.len() + self.o.len()
-    }
-
-    /// Each one's birth, which no two share, and latest tick, in list order; the potential ones first.
-    pub fn latest(&self) -> Vec<(u64, f64)> {
-        self.p.iter().chain(&self.o).map(|m| (m.t0 as u64, m.last_t)).collect()
     }
 
     /// The mean at a place of both pools, the potential ones first.

@@ -7,7 +7,6 @@ use crate::feature::Spherical;
 use crate::record::*;
 use crate::stream::{DbStream, DenStream, DriftReport};
 use crate::text::Line;
-use std::collections::HashMap;
 
 pub type Db = DbStream<f64, Spherical<f64>>;
 pub type Den = DenStream<f64, Spherical<f64>>;
@@ -61,15 +60,7 @@ impl Stream {
     pub fn labels(&self) -> &[i64] {
         either!(self, s => s.labels())
     }
-    /// Families of the last cluster, none after a later insert.
-    pub fn families(&self) -> usize {
-        either!(self, s => s.n_clusters())
-    }
-    /// The name of each micro-cluster held, which no other ever has, and its latest tick; in list order.
-    fn latest(&self) -> Vec<(u64, f64)> {
-        either!(self, s => s.latest())
-    }
-    pub fn absorbs(&self, x: &[f64]) -> bool {
+    fn absorbs(&self, x: &[f64]) -> bool {
         either!(self, s => s.absorbs(x))
     }
     fn since_check(&self) -> u64 {
@@ -80,12 +71,10 @@ impl Stream {
     }
 }
 
-/// A stream and what the Rust does not keep: how many finite values its drift window has taken and, by their names, how
-/// many points each micro-cluster that was ever held has taken.
+/// A stream and how many finite values its drift window has taken, which the Rust does not keep.
 struct Current {
     stream: Stream,
     taken: u64,
-    history: HashMap<u64, u64>,
 }
 
 /// A window of its own and how many finite values it has taken.
@@ -194,7 +183,7 @@ impl Machine {
                 }
             }
         };
-        self.current = Some(Current { stream, taken: 0, history: HashMap::new() });
+        self.current = Some(Current { stream, taken: 0 });
         line.word("ok");
     }
 }
@@ -248,11 +237,10 @@ impl Current {
             DRIFT => drift(either!(&self.stream, s => s.drift()), line),
             FIGURES => either!(&self.stream, s => s.figures(self.taken, line)),
             COUNTS => {
+                let families = either!(&self.stream, s => s.n_clusters());
                 line.word("counts").number(self.stream.dim() as u64);
-                line.number(self.stream.told() as u64).number(self.stream.families() as u64);
+                line.number(self.stream.told() as u64).number(families as u64);
             }
-            FAMILY => self.tell_family(r.operands[0] as i64, line),
-            TAKEN => self.tell_taken(line),
             op => unreachable!("operation {op} is none of a stream's"),
         }
     }
@@ -274,56 +262,12 @@ impl Current {
         if spoiled && s.held() >= 3 {
             x[0] = x[0].next_up();
         }
-        let (before, t) = (s.since_check(), s.clock());
+        let before = s.since_check();
         s.insert(&x);
         if s.since_check() != before {
             self.taken += 1;
         }
-        self.watch(t);
         line.word("ok");
-    }
-
-    /// After an insert at the clock t, which no other insert has: those whose latest tick it is took the point, at their
-    /// birth or later.
-    fn watch(&mut self, t: f64) {
-        for (name, last) in self.stream.latest() {
-            if last == t {
-                *self.history.entry(name).or_default() += 1;
-            }
-        }
-    }
-
-    /// How many points each micro-cluster held has taken, in list order.
-    fn counts(&self) -> Vec<u64> {
-        self.stream.latest().iter().map(|(name, _)| self.history[name]).collect()
-    }
-
-    /// Operation 21: each pool's counts.
-    fn tell_taken(&self, line: &mut Line) {
-        let counts = self.counts();
-        let (told, outliers) = counts.split_at(self.stream.told());
-        numbers(told, line.word("taken"));
-        if let Stream::Den(_) = self.stream {
-            numbers(outliers, line);
-        }
-    }
-
-    /// Operation 15: the counts of those that carry the label, added "from the newest member" and "from the oldest".
-    fn tell_family(&self, label: i64, line: &mut Line) {
-        let counts = self.counts();
-        let carried = counts.iter().zip(self.stream.labels()).filter(|(_, l)| **l == label);
-        let members: Vec<u64> = carried.map(|(c, _)| *c).collect();
-        let newest = members.iter().rfold(0, |sum, c| sum + c);
-        let oldest = members.iter().fold(0, |sum, c| sum + c);
-        line.word("family").number(newest).number(oldest);
-    }
-}
-
-/// How many, and each.
-fn numbers(of: &[u64], line: &mut Line) {
-    line.number(of.len() as u64);
-    for &n in of {
-        line.number(n);
     }
 }
 

@@ -18,32 +18,28 @@ pub const UPDATE: u64 = 11;
 pub const WINDOW: u64 = 12;
 pub const FIGURES: u64 = 13;
 pub const COUNTS: u64 = 14;
-pub const FAMILY: u64 = 15;
-pub const TAKEN: u64 = 21;
 
-/// An operation, its name and, one letter an operand, what the operands are: `n` a whole number, `l` a label in two's
-/// complement, `d` a double; `*` is any number of doubles.
-pub const OPERATIONS: [(u64, &str, &str); 16] = [
-    (OPEN_DB, "open DBSTREAM", "ndddd"),
-    (OPEN_DEN, "open DenStream", "ndddd"),
-    (INSERT, "insert", "*"),
-    (CLUSTER, "cluster", ""),
-    (LABELS, "labels", "n"),
-    (PREDICT, "predict", "*"),
-    (STATISTICS, "statistics", "nnn"),
-    (CONNECTIVITY, "connectivity", "nn"),
-    (DRIFT, "drift", ""),
-    (OPEN_WINDOW, "open window", "d"),
-    (UPDATE, "update", "d"),
-    (WINDOW, "window", ""),
-    (FIGURES, "every kept figure", ""),
-    (COUNTS, "counts", ""),
-    (FAMILY, "family", "l"),
-    (TAKEN, "taken", ""),
+/// An operation's name and, one letter an operand, what the operands are: `n` a whole number, `d` a double;
+/// `*` is any number of doubles.
+pub const OPERATIONS: [(&str, &str); 14] = [
+    ("open DBSTREAM", "ndddd"),
+    ("open DenStream", "ndddd"),
+    ("insert", "*"),
+    ("cluster", ""),
+    ("labels", "n"),
+    ("predict", "*"),
+    ("statistics", "nnn"),
+    ("connectivity", "nn"),
+    ("drift", ""),
+    ("open window", "d"),
+    ("update", "d"),
+    ("window", ""),
+    ("every kept figure", ""),
+    ("counts", ""),
 ];
 
 fn operation(op: u64) -> Option<(&'static str, &'static str)> {
-    OPERATIONS.iter().find(|o| o.0 == op).map(|o| (o.1, o.2))
+    OPERATIONS.get(usize::try_from(op).ok()?.checked_sub(1)?).copied()
 }
 
 pub fn name(op: u64) -> &'static str {
@@ -86,29 +82,24 @@ impl Record {
         }
     }
 
-    /// The letter of an operand.
-    fn kind(&self, place: usize) -> Option<u8> {
-        match operation(self.op)? {
-            (_, "*") => Some(b'd'),
-            (_, kinds) => kinds.as_bytes().get(place).copied(),
-        }
-    }
-
     /// The operands that are doubles.
     pub fn is_double(&self, place: usize) -> bool {
-        self.kind(place) == Some(b'd')
+        match operation(self.op) {
+            Some((_, "*")) => true,
+            Some((_, kinds)) => kinds.as_bytes().get(place) == Some(&b'd'),
+            None => false,
+        }
     }
 
     /// `insert 0.5 NaN`: doubles as the shortest decimal that reads back as the same double.
     pub fn readable(&self) -> String {
         let mut s = format!("{:>2} {}", self.op, name(self.op));
         for (i, &w) in self.operands.iter().enumerate() {
-            match self.kind(i) {
-                Some(b'd') => write!(s, " {:?}", f64::from_bits(w)),
-                Some(b'l') => write!(s, " {}", w as i64),
-                _ => write!(s, " {w}"),
+            if self.is_double(i) {
+                write!(s, " {:?}", f64::from_bits(w)).expect("a string takes all");
+            } else {
+                write!(s, " {w}").expect("a string takes all");
             }
-            .expect("a string takes all");
         }
         s
     }

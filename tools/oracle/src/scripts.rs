@@ -1,6 +1,6 @@
 //! Scripts for the comparison, each a function of its kind and its seed. Seed 0 of `window`, `db` and `den` is
 //! document 01's readings and the inputs of docs/DECISIONS.md; the others are random and adversarial.
-use crate::machine::{Machine, PLACES, Stream};
+use crate::machine::{Machine, Stream};
 use crate::points::{Points, SOURCES, SPECIALS, Source};
 use crate::random::Random;
 use crate::record::*;
@@ -289,7 +289,7 @@ impl Author {
 
     /// What can be asked without changing the holdings, drawn by lot; operation 13 only while it may print.
     fn ask(&mut self, points: &mut Points) {
-        match self.random.below(14) {
+        match self.random.below(10) {
             0 => self.say(CLUSTER, &[]),
             1 => self.ask_labels(),
             2 => self.ask_predict(points),
@@ -301,26 +301,11 @@ impl Author {
                 }
                 self.ask_labels();
                 self.say(COUNTS, &[]);
-                self.say(TAKEN, &[]);
-                self.ask_family();
             }
             5 => self.ask_statistics(),
             6 => self.ask_connectivity(),
             7 => self.say(DRIFT, &[]),
             8 => self.say(COUNTS, &[]),
-            9 => self.say(TAKEN, &[]),
-            // Mostly behind an insert, which took the labels.
-            10 => self.ask_family(),
-            11 | 12 => {
-                self.say(CLUSTER, &[]);
-                for _ in 0..1 + self.random.below(4) {
-                    self.ask_family();
-                }
-                // A refused insert leaves the labels.
-                self.refused_insert();
-                self.say(TAKEN, &[]);
-                self.ask_family();
-            }
             _ => {
                 let op = self.random.pick(&[OPEN_DB, OPEN_DEN]);
                 self.refused_opening(op);
@@ -376,19 +361,6 @@ impl Author {
         self.say(CONNECTIVITY, &pair);
     }
 
-    /// Mostly a label from −1 to the number of families, which is the first that nobody carries; else one far off, some
-    /// of these alike to a family's in their lower half.
-    fn ask_family(&mut self) {
-        let families = self.machine.stream().map_or(0, |s| s.families());
-        let far = [-2, 63, 64, i64::MIN, i64::MIN + 1, i64::MAX, 1 << 32, (1 << 32) - 1, -1 << 32, (1 << 32) + 1];
-        let label = match self.random.below(8) {
-            0 => self.random.pick(&far),
-            1 => -1,
-            _ => self.random.below(families + 2) as i64 - 1,
-        };
-        self.say(FAMILY, &[label as u64]);
-    }
-
     fn ask_predict(&mut self, points: &mut Points) {
         let Some(stream) = self.machine.stream() else {
             self.say_doubles(PREDICT, &[0.0]);
@@ -435,16 +407,6 @@ impl Author {
         }
     }
 
-    /// Where no place is left a point out of reach, else one of a wrong length.
-    fn refused_insert(&mut self) {
-        let far = vec![1e9; self.machine.stream().map_or(0, |s| s.dim())];
-        if self.machine.stream().is_some_and(|s| s.held() == PLACES && !s.absorbs(&far)) {
-            self.say_doubles(INSERT, &far);
-        } else {
-            self.wrong_length();
-        }
-    }
-
     fn open(&mut self, op: u64, dim: usize) -> Vec<u64> {
         let s = settings(op, dim, &mut self.random);
         self.say(op, &s);
@@ -469,16 +431,6 @@ impl Author {
             self.say_doubles(PREDICT, &x);
         }
         self.say(FIGURES, &[]);
-        self.tell_counts();
-    }
-
-    /// The counts, and those of every family, of −1 and of a label that nobody carries.
-    fn tell_counts(&mut self) {
-        self.say(TAKEN, &[]);
-        let families = self.machine.stream().map_or(0, |s| s.families()) as i64;
-        for label in -1..=families {
-            self.say(FAMILY, &[label as u64]);
-        }
     }
 
     fn session(&mut self, op: u64) {
@@ -605,8 +557,6 @@ impl Author {
                 (DRIFT, 0),
                 (FIGURES, 0),
                 (COUNTS, 0),
-                (FAMILY, 1),
-                (TAKEN, 0),
             ] {
                 self.say(op, &vec![0; n]);
             }
@@ -640,8 +590,6 @@ impl Author {
 
     fn db_readings(&mut self) {
         let at = |x: f64| [x];
-        self.say(FAMILY, &[0]);
-        self.say(TAKEN, &[]);
         // The input of `families`, with three alphas; then with two points only.
         for (alpha, points) in
             [(0.5, &[0.0, 1.5, 0.75][..]), (1.0, &[0.0, 1.5, 0.75]), (0.999, &[0.0, 1.5, 0.75]), (0.5, &[0.0, 1.5])]
@@ -689,26 +637,6 @@ impl Author {
                 self.say(FIGURES, &[]);
             }
         }
-        // The counts of a chain of three whose neighbours share a point, of one with a lone point and of one with equal
-        // points; with the larger min_weight several are weak. The faster fading cleans up: the one with the lone point
-        // goes, then the chain's first member, and where that was another is born.
-        for (lambda, min_weight) in [(1.0 / 1024.0, 1.0), (1.0 / 1024.0, 2.0), (0.25, 0.25)] {
-            self.say(OPEN_DB, &[1, bits(1.0), bits(lambda), bits(0.5), bits(min_weight)]);
-            self.tell_counts();
-            for p in [0.0, 1.5, 2.75, 10.0, 20.0, 0.75, 1.9, 20.0, 1.6, 1.6, 1.6, 20.0, 0.0] {
-                self.say_doubles(INSERT, &at(p));
-                self.tell_counts();
-                self.say(CLUSTER, &[]);
-                self.say(LABELS, &[64]);
-                self.tell_counts();
-            }
-            for label in [-2, i64::MIN, i64::MAX, 1 << 32, (1 << 32) - 1] {
-                self.say(FAMILY, &[label as u64]);
-            }
-            self.say_doubles(INSERT, &[0.0, 0.0]);
-            self.tell_counts();
-            self.say(FIGURES, &[]);
-        }
         // 64 at the corners of a cube, linked along a binomial tree whose lowest place lies deep: its find makes 3 steps,
         // the most there are. With the larger min_weight the tree's leaves are weak.
         let code = |p: u64| if p == 63 { 0 } else { (3 << (p + 1).ilog2()) - 2 - p };
@@ -732,7 +660,6 @@ impl Author {
             }
             self.say(CLUSTER, &[]);
             self.say(LABELS, &[64]);
-            self.tell_counts();
         }
         // Births: −0 is stored as +0, and squares that overflow leave no ssd; a NaN first makes every nearest NaN.
         for v in SPECIALS {
@@ -786,21 +713,6 @@ impl Author {
                 self.say(FIGURES, &[]);
             }
         }
-        // The counts of two that are promoted, the second of which comes near: a family of both. The first rests until the
-        // pruning at 16 takes it, and an outlier of one point with it; one of two points stays and is promoted.
-        self.say(OPEN_DEN, &[1, bits(1.0), bits(1.0 / 16.0), bits(0.5), bits(4.0)]);
-        self.tell_counts();
-        for p in [0.0, 0.0, 0.0, 3.0, 3.0, 3.0, 2.0, 1.5, 1.25, 1.125, 1.0625, 20.0, 30.0, 30.0, 1.75, 1.75, 30.0, 40.0]
-        {
-            self.say_doubles(INSERT, &at(p));
-            self.tell_counts();
-            self.say(CLUSTER, &[]);
-            self.say(LABELS, &[64]);
-            self.tell_counts();
-        }
-        self.say_doubles(INSERT, &[0.0, 0.0]);
-        self.tell_counts();
-        self.say(FIGURES, &[]);
         // 64 in both pools together, then the 65th.
         self.say(OPEN_DEN, &[1, bits(1.0), bits(1.0 / 1048576.0), bits(0.5), bits(3.0)]);
         for i in 0..64 {
@@ -851,7 +763,7 @@ fn record_bytes(op: u64, count: u64, operands: usize) -> Vec<u8> {
 /// Every malformed record that is tried.
 pub fn malformed() -> Vec<Vec<u8>> {
     let mut cases = vec![vec![]];
-    for (op, ..) in OPERATIONS {
+    for op in 1..=14 {
         for n in 0..=6u64 {
             if !takes(op, n) {
                 cases.push(record_bytes(op, n, n as usize));
@@ -862,7 +774,7 @@ pub fn malformed() -> Vec<Vec<u8>> {
             cases.push(record_bytes(op, n, 0));
         }
     }
-    for op in [0, 16, 17, 18, 19, 20, 22, 1 << 32, (1 << 32) + 4, (1 << 32) + 15, u64::MAX] {
+    for op in [0, 15, 16, 1 << 32, (1 << 32) + 4, u64::MAX] {
         for n in [0, 1, 5, 65] {
             cases.push(record_bytes(op, n, n as usize));
         }

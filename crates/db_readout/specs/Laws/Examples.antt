@@ -22,7 +22,7 @@ abbrev second : MicroId
 second = record { 0 = 1 }
 
 abbrev of : MicroId → (w last : Float) → DbMicro
-of id w last = record { body = record { cf = record { w = w; mean = nought ∷ []; ssd = nought }; last = last; count = 1 }; id = id }
+of id w last = record { body = record { cf = record { w = w; mean = nought ∷ []; ssd = nought }; last = last }; id = id }
 
 abbrev shared : (value last : Float) → Link
 shared value last = record { lo = first; hi = second; value = value; last = last }

@@ -52,11 +52,6 @@ module _ {ℓ} {A B : Type ℓ} (f : A → B) where
       go true e = ap (λ (r : List B). f x ∷ r) e
       go false e = e
 
--- a map after a map
-pub map-map : {A B C : Type 0} (f : B → C) (g : A → B) (l : List A) → map f (map g l) ≡ map (λ (a : A). f (g a)) l
-map-map f g [] = refl
-map-map {A} {B} {C} f g (x ∷ xs) = ap (λ (r : List C). f (g x) ∷ r) (map-map f g xs)
-
 -- a map and a search
 pub map_first :
     {A B C : Type 0} (g : A → B) (p : B → Bool) (f : B → C) (d : C) (l : List A) →

@@ -1,13 +1,11 @@
--- What holds of a stream of any kind: its tick, its insert, its labels, what its families count. Assumes nothing.
-use Rattle.std.specs.Prelude.{◌≡◌, ℕ, Bool, true, false, cond, ◌≢◌, List, [], map, length, ℤ, Float}
+-- What holds of a stream of any kind: its tick, its insert, its labels. Assumes nothing.
+use Rattle.std.specs.Prelude.{◌≡◌, ℕ, Bool, true, false, cond, ◌≢◌, List, [], length, Float}
 use Rattle.std.proofs.Math.Path.{refl, ap, ap₂, subst}
 use Rattle.std.proofs.Common.{sym, ◌∙◌}
 use Rattle.std.specs.Float.Ieee.{lt}
 use Rattle.float.specs.Rounded.{◌⊕◌, one}
-use Rattle.lists.specs.Each.{Each}
 use Rattle.drift.specs.Monitor.{observe_of}
 use Rattle.drift.specs.declared.Nearest.{Nearest}
-use Rattle.model.specs.declared.body.Body.{Body}
 use Rattle.model.specs.declared.answers.Insertion.{Insertion}
 use Rattle.model.specs.declared.answers.Insertion.TheVariants.{Done}
 use Rattle.model.specs.Limits.{clock_limit}
@@ -16,11 +14,8 @@ use Rattle.model.specs.Questions.{insertion_asked}
 use Rattle.model.specs.Fading.{is_multiple}
 use Rattle.model.specs.Ticking.{Tick}
 use Rattle.model.specs.Outcome.{Outcome, outcome}
-use Rattle.model.specs.Members.{from_newest}
-use Rattle.model.specs.Laws.Members.{either_end, nobody}
 use Rattle.model.specs.Laws.Insert.{never, asked_cases, same_answer, taken_asks}
 use Rattle.model.specs.Stream.{State, Kind, holding, taking, advanced, cleaned_of, tick_of, taken_of, has_place, insert_by, insert_of}
-use Rattle.model.specs.Stream.{counts_of, count_from_newest, count_from_oldest}
 
 module _ {S P H : Type 0} (k : Kind S P H) where
   -- ---- the tick
@@ -123,13 +118,3 @@ module _ {S P H : Type 0} (k : Kind S P H) where
   insert_clears place s x =
       insert_cases place s x (λ (r : Outcome (State P H)). r.answer ≡ Done → r.stream.labels ≡ [])
       (λ a h q. never (sym h ∙ ap is_done q)) (λ l e q. tick_labels (taking s (k.placed s x)) (k.nearest_for s x))
-
-  -- ---- what a family counts: "Both sums must be shown equal"
-  pub same_sums : (s : State P H) (label : ℤ) → count_from_newest k s label ≡ count_from_oldest k s label
-  same_sums s label = either_end (counts_of k s label)
-
-  -- "A label that nobody carries counts 0"
-  pub nobody_counts : (s : State P H) (label : ℤ) → Each (λ (l : ℤ). l ≢ label) s.labels → count_from_newest k s label ≡ 0
-  unfolding from_newest
-  nobody_counts s label none =
-      ap (λ (l : List Body). from_newest (map (λ (b : Body). b.count) l)) (nobody label s.labels (k.bodies_of s.held) none)

@@ -7,7 +7,7 @@
 //! as some difference stays: records are dropped, then operands made simpler; SECONDS (default 60) bound that. The small
 //! script is printed with both answers and stored in FOLDER (default target/compare).
 //! Then the calls of each operation and kind, and the answers, are counted. Ends with 0 if nothing differs, else 1.
-use oracle::record::{self, OPERATIONS, Record};
+use oracle::record::{self, Record};
 use oracle::scripts::{Script, malformed, script};
 use std::collections::BTreeMap;
 use std::io::{BufRead, BufReader, Write};
@@ -264,8 +264,6 @@ impl Counts {
             "label" => "label of a family".into(),
             "drift" if text.starts_with("drift 0 ") => "drift without an alarm".into(),
             "drift" => "drift with alarms".into(),
-            "family" if text == "family 0 0" => "family of none".into(),
-            "family" => "family of members".into(),
             _ => first.to_string(),
         };
         *self.answers.entry((op, answer)).or_default() += 1;
@@ -279,7 +277,7 @@ impl Counts {
             print!(" {k:>10}");
         }
         println!("  answers");
-        for op in OPERATIONS.iter().map(|o| o.0).chain([0]) {
+        for op in (1..=14).chain([0]) {
             let answers: Vec<String> = self
                 .answers
                 .range((op, String::new())..)

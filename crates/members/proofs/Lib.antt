@@ -1,2 +1,0 @@
--- What only the proofs here use.
-pub mod Adding
