@@ -1,4 +1,6 @@
 // ADWIN: a window over a stream of numbers that tells when they changed (Bifet & Gavaldà, SDM 2007).
+#![tactic(auto)]
+
 ghost use Rattle.std.specs.Prelude.{◌≡◌, ◌+◌, ◌<◌, ◌≤◌, false, ◌&&◌, nat_lt};
 ghost use Rattle.float.specs.Order.{is_finite};
 ghost use Rattle.adwin.specs.Settings.{limit, places};
@@ -13,7 +15,7 @@ use adwin_buckets::{CutTest, some_fails_in};
 
 // The window. The buckets are the first `count` of the array, oldest first, each with its class:
 // a bucket of class c has 2^c values.
-#[derive(Drop)]
+#[derive(Clone, Copy)]
 pub struct Adwin {
     pub delta: f64,
     pub buckets: [Bucket; PLACES],
@@ -28,7 +30,7 @@ pub struct Adwin {
 }
 
 // The answer to an update: no change seen, a change seen, or the value refused because `LIMIT` were taken.
-#[derive(Drop)]
+#[derive(Clone, Copy)]
 pub enum Verdict {
     Quiet,
     Alarm,
@@ -49,7 +51,7 @@ impl Verdict {
 }
 
 // What an update gives back: its answer, and the window after it.
-#[derive(Drop)]
+#[derive(Clone, Copy)]
 pub struct Updated {
     pub answer: Verdict,
     pub window: Adwin,

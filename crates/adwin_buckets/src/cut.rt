@@ -4,7 +4,7 @@ ghost use Rattle.adwin_buckets.specs.Cut.{apart, cut_fails};
 
 // What the tests of all cuts share: the fewest values that a side has, the window's width and total,
 // and the two figures of the bound, the window's variance v and g.
-#[derive(Drop)]
+#[derive(Clone, Copy)]
 pub struct CutTest {
     pub side: f64,
     pub width: f64,

@@ -1,4 +1,6 @@
 // The buckets of a window, and whether a cut of the window after one of them fails.
+#![tactic(auto)]
+
 mod bucket;
 mod cut;
 mod search;

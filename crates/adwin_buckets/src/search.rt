@@ -12,7 +12,7 @@ pub const PLACES: usize = 225;
 
 // A search under way: the buckets before `at` have n0 values with the sum t0, `left` are still to be
 // searched, and `fails` says whether a cut failed.
-#[derive(Drop)]
+#[derive(Clone, Copy)]
 struct Search {
     test: CutTest,
     n0: f64,
@@ -67,7 +67,7 @@ pub fn some_fails(test: CutTest, buckets: &[Bucket], n: usize) -> bool
     s.fails
 }
 
-// The same of a window's places, which it lends: a caller that lends them itself is proved by hand.
+// The same of a window's places, which it lends.
 pub fn some_fails_in(test: CutTest, buckets: [Bucket; PLACES], n: usize) -> bool
     ensures { result ≡ some_fails test nought nought (take n buckets) }
 {

@@ -1,4 +1,6 @@
 // The drift window lent for update.
+#![tactic(auto)]
+
 ghost use Rattle.std.specs.Prelude.{◌≡◌, false};
 ghost use Rattle.float.specs.Order.{is_finite};
 ghost use Rattle.adwin.specs.Window.{update_of};
@@ -17,7 +19,7 @@ pub fn update(window: &mut Adwin, value: f64) -> Verdict
     done.answer
 }
 
-// The same of a window by value, which it lends: a caller that lends one itself is proved by hand.
+// The same of a window by value, which it lends.
 pub fn updated(window: Adwin, value: f64) -> Updated
     ensures result_value { told result ≡ update_of (view window) value }
     ensures refused { number_of result.answer ≡ 8 → result.window ≡ window }

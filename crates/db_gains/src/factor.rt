@@ -3,7 +3,7 @@ ghost use Rattle.std.specs.Prelude.{◌≡◌};
 ghost use Rattle.db_gains.specs.Factor.{factor_of, same_bits, since_of};
 
 // How much is left at the clock of the insert of what was there at last.
-#[derive(Drop)]
+#[derive(Clone, Copy)]
 pub struct Factor {
     pub last: f64,
     pub fade: f64,

@@ -1,4 +1,6 @@
 // Links that gain: one pass over the pairs of neighbours and over the links.
+#![tactic(auto)]
+
 mod factor;
 mod pass;
 mod walk;

@@ -10,7 +10,7 @@ use model::{LINKS, Link, MICROS, MicroId};
 
 // How far the pairs and the links are walked, and how many links there are; `carries` says that
 // `carry` is on its way up the list, and `at` where to; `factor` is kept from the last gain for the next.
-#[derive(Drop)]
+#[derive(Clone, Copy)]
 pub struct Pass {
     pub walk: Walk,
     pub count: usize,
@@ -21,7 +21,7 @@ pub struct Pass {
 }
 
 // A turn: the link that now stands at the place, and whether the pair has had its gain.
-#[derive(Drop)]
+#[derive(Clone, Copy)]
 struct Turn {
     link: Link,
     gained: bool,
@@ -29,7 +29,7 @@ struct Turn {
 }
 
 // A step: the link that now stands at the place, and how the pass goes on.
-#[derive(Drop)]
+#[derive(Clone, Copy)]
 pub struct Step {
     pub link: Link,
     pub pass: Pass,

@@ -6,7 +6,7 @@ use db_link::{is_before, key_of};
 use model::{Link, MICROS, MicroId};
 
 // The pair at places i and j, its link before any gain, and how many links at the front are known to stand before that.
-#[derive(Drop)]
+#[derive(Clone, Copy)]
 pub struct Walk {
     pub i: usize,
     pub j: usize,

@@ -1,4 +1,6 @@
 // The places of strong micro-clusters that dense links join, and the labels that this gives.
+#![tactic(auto)]
+
 ghost use Rattle.std.specs.Prelude.{◌≡◌, false, ◌&&◌, ◌≤◌, take, get_or};
 ghost use Rattle.std.specs.Float.Ieee.{le};
 ghost use Rattle.union_find.specs.Pairs.{pairs_of};
@@ -58,7 +60,7 @@ fn joins(
 }
 
 // Pairs of places: the first count of a and of b.
-#[derive(Drop)]
+#[derive(Clone, Copy)]
 struct Pairs {
     a: [usize; LINKS],
     b: [usize; LINKS],

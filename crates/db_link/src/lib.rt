@@ -1,4 +1,6 @@
 // DBSTREAM's links: the shared density of pairs of micro-clusters, ascending by (lo, hi).
+#![tactic(auto)]
+
 mod order;
 mod stay;
 

@@ -7,7 +7,7 @@ ghost use Rattle.db_link.specs.Listed.{links_told, links_of};
 use model::{LINKS, Link, MICROS, MicroId};
 
 // The list of links: the first count of the array.
-#[derive(Drop)]
+#[derive(Clone, Copy)]
 pub struct Links {
     pub links: [Link; LINKS],
     pub count: usize,

@@ -14,7 +14,7 @@ fn stays(m: DbMicro, lambda: f64, t: f64, floor: f64) -> bool
     !(b.faded_weight(lambda, t) < floor)
 }
 
-#[derive(Drop)]
+#[derive(Clone, Copy)]
 pub struct Micros {
     pub micros: [DbMicro; MICROS],
     pub count: usize,

@@ -32,7 +32,7 @@ fn absorbed(m: DbMicro, x: [f64; MAX_DIM], dim: usize, lambda: f64, t: f64) -> D
 }
 
 // The micro-clusters after a point, how many they are, and the next creation number.
-#[derive(Drop)]
+#[derive(Clone, Copy)]
 pub struct Placed {
     pub micros: [DbMicro; MICROS],
     pub count: usize,

@@ -1,4 +1,6 @@
 // A point among DBSTREAM's micro-clusters: one scan finds its neighbours, and they absorb it; with none, it is a new one.
+#![tactic(auto)]
+
 mod absorption;
 mod nearest;
 mod scan;

@@ -10,7 +10,7 @@ use feature::{MAX_DIM, sq_euclidean};
 use model::{DbMicro, MICROS, MicroId};
 
 // The distances, the least of them, and the neighbours' creation numbers, of which count are there.
-#[derive(Drop)]
+#[derive(Clone, Copy)]
 pub struct Scan {
     pub distances: [f64; MICROS],
     pub nearest: Nearest,

@@ -1,4 +1,6 @@
 // What a DBSTREAM reads out. Apart from the stream, since a check grows with the functions over so large a struct.
+#![tactic(auto)]
+
 mod connected;
 
 ghost use Rattle.std.specs.Prelude.{◌≡◌};

@@ -14,7 +14,7 @@ use feature::MAX_DIM;
 use model::Insertion;
 
 // The answer, and the stream given back.
-#[derive(Drop)]
+#[derive(Clone, Copy)]
 pub struct Inserted {
     pub answer: Insertion,
     pub stream: DbStream,

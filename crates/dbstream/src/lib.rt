@@ -1,4 +1,6 @@
 // DBSTREAM (Hahsler and Bolaños): micro-clusters that fade, joined by shared density.
+#![tactic(auto)]
+
 mod cleanup;
 mod cluster;
 mod insert;

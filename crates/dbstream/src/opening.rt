@@ -11,7 +11,7 @@ use drift::DriftMonitor;
 use model::{Body, DbMicro, DbParams, DbSettings, LINKS, Link, MICROS, MicroId, Opening};
 
 // The answer, and the stream; beside a refusal stands one whose settings are all 0.
-#[derive(Drop)]
+#[derive(Clone, Copy)]
 pub struct Opened {
     pub answer: Opening,
     pub stream: DbStream,

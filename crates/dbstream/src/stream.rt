@@ -8,7 +8,7 @@ use feature::MAX_DIM;
 use model::{DbMicro, DbParams, LINKS, Link, MICROS, MicroId};
 
 // The arrays hold as many elements as their counts say; links stand in the order of their ends' creation numbers.
-#[derive(Drop)]
+#[derive(Clone, Copy)]
 pub struct DbStream {
     pub params: DbParams,
     pub t: f64,

@@ -1,4 +1,6 @@
 // DenStream's groups: potential micro-clusters chained by close centres, and their labels.
+#![tactic(auto)]
+
 mod groups;
 mod pairs;
 

@@ -12,7 +12,7 @@ use model::{DenMicro, DenParams, MICROS};
 
 // What a point does to the pools: a potential one absorbs it; an outlier does, and moves to the potential ones or
 // stays; a new outlier comes; or both pools are full.
-#[derive(Drop)]
+#[derive(Clone, Copy)]
 pub enum Target {
     Potential,
     Promotion,
@@ -36,7 +36,7 @@ impl Target {
     }
 }
 
-#[derive(Drop)]
+#[derive(Clone, Copy)]
 pub struct Placement {
     pub target: Target,
     // The place of the one that absorbs, in its pool.
@@ -117,7 +117,8 @@ pub fn place(
         return Placement::new(grown(m, params.bm), o.place, m, near);
     }
     let m = den_pool::newborn(t, x, lists::cut(params.settings.dim, MAX_DIM));
-    if np + no < MICROS {
+    let has_place = np + no < MICROS;
+    if has_place {
         return Placement::new(Target::Newborn, 0, m, near);
     }
     Placement::new(Target::Nowhere, 0, m, near)

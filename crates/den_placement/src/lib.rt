@@ -1,4 +1,6 @@
 // Where a DenStream puts a point: tried in the potential pool, then among the outliers, else a new outlier.
+#![tactic(auto)]
+
 mod choice;
 mod counts;
 

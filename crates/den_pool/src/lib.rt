@@ -1,4 +1,6 @@
 // A pool of DenStream's micro-clusters, potential ones or outliers: an array, of which the first n are held.
+#![tactic(auto)]
+
 mod micro;
 mod pool;
 mod pruning;

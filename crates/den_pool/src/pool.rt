@@ -5,7 +5,7 @@ ghost use Rattle.den_pool.specs.Held.{held, body_of, weight_of};
 
 use model::{Body, DenMicro, MICROS};
 
-#[derive(Drop)]
+#[derive(Clone, Copy)]
 pub struct Pool {
     pub micros: [DenMicro; MICROS],
     pub count: usize,

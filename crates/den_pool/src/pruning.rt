@@ -9,7 +9,7 @@ use crate::pool::Pool;
 use model::{DenMicro, DenParams, MICROS};
 
 // What a pool's micro-clusters are.
-#[derive(Drop)]
+#[derive(Clone, Copy)]
 pub enum Rank {
     Potential,
     Outlier,

@@ -9,7 +9,7 @@ use feature::MAX_DIM;
 use model::{DenMicro, DenParams, MICROS};
 use readout::Found;
 
-#[derive(Drop)]
+#[derive(Clone, Copy)]
 pub struct Trial {
     // The pool's nearest distance, if it has one.
     pub near: Nearest,

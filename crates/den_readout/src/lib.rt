@@ -1,4 +1,6 @@
 // What a DenStream reads out of its potential micro-clusters. Apart from the stream, since a check grows with the functions over so large a struct.
+#![tactic(auto)]
+
 ghost use Rattle.std.specs.Prelude.{◌≡◌};
 ghost use Rattle.model.specs.Answers.{prediction_said};
 ghost use Rattle.model.specs.ReadOut.{clusters_in};

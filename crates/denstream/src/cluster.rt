@@ -6,7 +6,7 @@ ghost use Rattle.denstream.specs.View.{view};
 use crate::stream::DenStream;
 
 // The finds that the labels took, the halving steps of all these, and the stream.
-#[derive(Drop)]
+#[derive(Clone, Copy)]
 pub struct Clustered {
     pub finds: u64,
     pub steps: u64,

@@ -13,7 +13,7 @@ use feature::MAX_DIM;
 use model::Insertion;
 
 // The answer, and the stream given back.
-#[derive(Drop)]
+#[derive(Clone, Copy)]
 pub struct Inserted {
     pub answer: Insertion,
     pub stream: DenStream,
@@ -38,7 +38,8 @@ impl DenStream {
         let target = p.target;
         match target {
             Target::Potential => {
-                self.potential[place] = m;
+                let at = place;
+                self.potential[at] = m;
             }
             Target::Promotion => {
                 let outliers = self.outliers;

@@ -1,4 +1,6 @@
 // DenStream (Cao): two pools of fading micro-clusters, potential ones and outliers.
+#![tactic(auto)]
+
 mod cleanup;
 mod cluster;
 mod insert;

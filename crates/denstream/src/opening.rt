@@ -13,7 +13,7 @@ use drift::DriftMonitor;
 use model::{Body, DenMicro, DenParams, DenSettings, MICROS, Opening};
 
 // The answer, and the stream; beside a refusal stands one whose settings are all 0.
-#[derive(Drop)]
+#[derive(Clone, Copy)]
 pub struct Opened {
     pub answer: Opening,
     pub stream: DenStream,

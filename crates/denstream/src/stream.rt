@@ -8,7 +8,7 @@ use feature::MAX_DIM;
 use model::{DenMicro, DenParams, MICROS};
 
 // The arrays hold as many elements as their counts say, the pools never more than 64 together.
-#[derive(Drop)]
+#[derive(Clone, Copy)]
 pub struct DenStream {
     pub params: DenParams,
     pub t: f64,

@@ -1,25 +1,27 @@
 // The drift monitor of a stream: a window over the distances from the points to the nearest micro-cluster.
+#![tactic(auto)]
+
 ghost use Rattle.std.specs.Prelude.{◌≡◌};
 ghost use Rattle.drift.specs.Monitor.{new_of, observe_of, report_of, view};
 
 use adwin::Adwin;
 
 // The squared distance to the nearest micro-cluster, where there is one.
-#[derive(Drop)]
+#[derive(Clone, Copy)]
 pub enum Nearest {
     Nothing,
     Distance(f64),
 }
 
 // The tick at which the alarm last rang.
-#[derive(Drop)]
+#[derive(Clone, Copy)]
 pub enum LastAlarm {
     Never,
     At(f64),
 }
 
 // What the monitor reports: the alarms rung, the tick of the last, and the window's mean and width.
-#[derive(Drop)]
+#[derive(Clone, Copy)]
 pub struct DriftReport {
     pub alarms: u64,
     pub last_alarm: LastAlarm,
@@ -29,7 +31,7 @@ pub struct DriftReport {
 }
 
 // The window, the radius that distances are counted in, and the alarms rung so far.
-#[derive(Drop)]
+#[derive(Clone, Copy)]
 pub struct DriftMonitor {
     pub adwin: Adwin,
     pub radius: f64,

@@ -1,5 +1,7 @@
 // The examples of document 01 for `families`, and inputs at the edges of its questions, each under a heading;
 // the gate compares the text with the file stdout, which was written by hand from document 01.
+#![tactic(auto)]
+
 const STDOUT: i32 = 1;
 
 // A word more than an input may have.

@@ -1,4 +1,6 @@
 // The lines that `families` prints.
+#![tactic(auto)]
+
 ghost use Rattle.std.specs.Prelude.{◌*◌, ◌≤◌, ◌≡◌, ◌++◌, take};
 ghost use Rattle.model.specs.Limits.{micros_most};
 ghost use Rattle.text.specs.Text.{text_of, Added, Within};

@@ -1,4 +1,6 @@
 // What `families` prints for the bytes of its input.
+#![tactic(auto)]
+
 ghost use Rattle.std.specs.Prelude.{◌≡◌};
 ghost use Rattle.dbstream.specs.View.{view};
 ghost use Rattle.text.specs.Text.{text_of};

@@ -1,4 +1,6 @@
 // Cluster features: the weight, mean and spread of the points that a micro-cluster took in, and how they fade.
+#![tactic(auto)]
+
 mod distance;
 mod fading;
 mod spherical;

@@ -5,7 +5,7 @@ ghost use Rattle.feature.specs.Feature.{max_dim, empty, pushed, decayed};
 use crate::MAX_DIM;
 
 // Weight, mean, and the sum of squared deviations from it; places past dim are unused.
-#[derive(Drop)]
+#[derive(Clone, Copy)]
 pub struct Spherical {
     pub w: f64,
     pub mean: [f64; MAX_DIM],

@@ -1,4 +1,6 @@
 // Exact doubles: document 01's stand-ins for the functions of doubles that the Rust takes from its library.
+#![tactic(auto)]
+
 mod binary64;
 mod ceiling;
 mod logarithm;

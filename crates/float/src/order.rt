@@ -14,9 +14,10 @@ pub fn is_finite(x: f64) -> bool
 pub fn max(a: f64, b: f64) -> f64
     ensures { result ≡ larger a b }
 {
+    let b_larger = a < b;
     if a != a {
         b
-    } else if a < b {
+    } else if b_larger {
         b
     } else {
         a
@@ -27,9 +28,10 @@ pub fn max(a: f64, b: f64) -> f64
 pub fn min(a: f64, b: f64) -> f64
     ensures { result ≡ smaller a b }
 {
+    let b_smaller = b < a;
     if a != a {
         b
-    } else if b < a {
+    } else if b_smaller {
         b
     } else {
         a

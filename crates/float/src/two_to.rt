@@ -31,12 +31,14 @@ fn cut(y: f64) -> f64
     let bits = f64::to_bits(-y);
     let biased = bits / LEAD;
     // Below 0: nothing of y is whole.
-    if biased < BIAS {
+    let below_one = biased < BIAS;
+    if below_one {
         return -0.0;
     }
     let exponent = biased - BIAS;
     // 0 to 51: the digits behind the point are dropped.
-    if exponent < DIGITS {
+    let has_fraction = exponent < DIGITS;
+    if has_fraction {
         let significand = LEAD + bits % LEAD;
         return -((significand >> (DIGITS - exponent)) as f64);
     }

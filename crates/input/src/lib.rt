@@ -1,23 +1,24 @@
 // The one reader of the programs that take a session from standard input.
+#![tactic(auto)]
+
 ghost use Rattle.io.specs.Counts.{IsPrefixLen};
 ghost use Rattle.input.specs.Read.{Read};
 
+use std::io::Read;
 use text::Writing;
 
 // One byte more than an input may have.
 pub const ROOM: usize = 65537;
 
 // Until the input ends or the room is full; where a read fails, no bytes, which are no input.
-fn read_all(fd: i32, room: &mut [u8]) -> usize
+fn read_all<R: Read>(reader: &mut R, room: &mut [u8]) -> usize
     ensures { IsPrefixLen result room.new }
 {
     let mut done: usize = 0;
     while done < room.len() {
-        let got = libc::read(fd, &mut room[done..]);
-        if got < 0 {
+        let Ok(more) = reader.read(&mut room[done..]) else {
             return 0;
-        }
-        let more = io::count(got, &room[done..]);
+        };
         if more == 0 {
             return done;
         }
@@ -27,10 +28,10 @@ fn read_all(fd: i32, room: &mut [u8]) -> usize
 }
 
 // The bytes of a whole input, or the first ROOM of them; none where a read fails. What they are no contract can say.
-pub fn read(fd: i32, room: &mut [u8]) -> Writing
+pub fn read<R: Read>(reader: &mut R, room: &mut [u8]) -> Writing
     ensures { Read result room.old room.new }
 {
     let mut bytes = [0u8; ROOM];
-    let n = read_all(fd, &mut bytes);
+    let n = read_all(reader, &mut bytes);
     text::write(&bytes[..n], room)
 }

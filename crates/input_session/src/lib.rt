@@ -1,4 +1,6 @@
 // The session that an input's bytes hold: a stream is opened and takes the points.
+#![tactic(auto)]
+
 mod parse;
 mod run;
 
@@ -13,7 +15,7 @@ use words::word_at;
 const INPUT_REFUSED: u64 = 11;
 
 // The number of the first refusal, 0 where there is none, and the stream as far as it came.
-#[derive(Drop)]
+#[derive(Clone, Copy)]
 pub struct Session {
     pub number: u64,
     pub stream: DbStream,

@@ -7,7 +7,7 @@ use lists::cut;
 use union_find::{PLACES, Work};
 
 // Labels of places, and the finds that were made for them.
-#[derive(Drop)]
+#[derive(Clone, Copy)]
 pub struct Labelled {
     pub labels: [i64; PLACES],
     pub work: Work,

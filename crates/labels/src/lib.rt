@@ -1,4 +1,6 @@
 // Places that each have a root: their labels, and sums of their weights.
+#![tactic(auto)]
+
 mod group;
 mod label;
 

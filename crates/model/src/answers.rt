@@ -3,7 +3,7 @@ ghost use Rattle.std.specs.Prelude.{◌≡◌};
 ghost use Rattle.model.specs.Answers.{opening_number, insertion_number, is_open, is_done};
 
 // An opening's answer: the first question whose answer is no.
-#[derive(Drop)]
+#[derive(Clone, Copy)]
 pub enum Opening {
     Open,
     Dim,
@@ -43,7 +43,7 @@ impl Opening {
 }
 
 // An insert's answer.
-#[derive(Drop)]
+#[derive(Clone, Copy)]
 pub enum Insertion {
     Done,
     Shape { expected: usize, got: usize },
@@ -76,21 +76,21 @@ impl Insertion {
 }
 
 // A prediction's answer.
-#[derive(Drop)]
+#[derive(Clone, Copy)]
 pub enum Prediction {
     Label(i64),
     Shape { expected: usize, got: usize },
 }
 
 // The answer of a read-out into lent slices.
-#[derive(Drop)]
+#[derive(Clone, Copy)]
 pub enum ReadOut {
     Written,
     TooShort,
 }
 
 // The answer of DBSTREAM's connectivity.
-#[derive(Drop)]
+#[derive(Clone, Copy)]
 pub enum Connectivity {
     Density(f64),
     NotLive,

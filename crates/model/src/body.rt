@@ -8,7 +8,7 @@ use crate::fading::faded;
 use feature::{MAX_DIM, Spherical};
 
 // Its feature, and the clock at its latest birth or absorption.
-#[derive(Drop)]
+#[derive(Clone, Copy)]
 pub struct Body {
     pub cf: Spherical,
     pub last: f64,

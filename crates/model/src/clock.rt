@@ -23,21 +23,22 @@ fn is_multiple(t: f64, period: f64) -> bool
     ensures { result ≡ is_multiple t period }
 {
     let p = ticks(period);
-    if p == 0 {
+    let never = p == 0;
+    if never {
         return false;
     }
     ticks(t) % p == 0
 }
 
 // The tick, and the ticks between two prunings. The monitor is no part of it: it would be copied in and out.
-#[derive(Drop)]
+#[derive(Clone, Copy)]
 pub struct Clock {
     pub t: f64,
     pub period: f64,
 }
 
 // The time and the monitor after a tick, and whether a pruning is due.
-#[derive(Drop)]
+#[derive(Clone, Copy)]
 pub struct Ticked {
     pub t: f64,
     pub drift: DriftMonitor,

@@ -1,4 +1,6 @@
 // What both streams share: the limits, what is kept of a micro-cluster and of a link, the clock, the answers and the questions.
+#![tactic(auto)]
+
 mod answers;
 mod body;
 mod clock;

@@ -2,7 +2,7 @@
 use crate::micro::MicroId;
 
 // Its ends' creation numbers, the smaller first, its value, and the clock at its latest gain.
-#[derive(Drop)]
+#[derive(Clone, Copy)]
 pub struct Link {
     pub lo: MicroId,
     pub hi: MicroId,

@@ -2,7 +2,7 @@
 use crate::settings::{DbSettings, DenSettings};
 
 // The ticks between cleanups, and the faded weight that survives them.
-#[derive(Drop)]
+#[derive(Clone, Copy)]
 pub struct DbParams {
     pub settings: DbSettings,
     pub t_gap: f64,
@@ -10,7 +10,7 @@ pub struct DbParams {
 }
 
 // eps2 is eps * eps, bm is beta * mu, tp the ticks between prunings.
-#[derive(Drop)]
+#[derive(Clone, Copy)]
 pub struct DenParams {
     pub settings: DenSettings,
     pub eps2: f64,

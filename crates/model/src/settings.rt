@@ -1,6 +1,6 @@
 // What an opening names.
 
-#[derive(Drop)]
+#[derive(Clone, Copy)]
 pub struct DbSettings {
     pub dim: usize,
     pub r: f64,
@@ -9,7 +9,7 @@ pub struct DbSettings {
     pub min_weight: f64,
 }
 
-#[derive(Drop)]
+#[derive(Clone, Copy)]
 pub struct DenSettings {
     pub dim: usize,
     pub eps: f64,

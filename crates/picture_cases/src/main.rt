@@ -1,8 +1,19 @@
 // Inputs at the edges of `picture`, each under a heading; the gate compares the text with the file stdout, which was worked out by hand.
+#![tactic(auto)]
+
+use std::io::{Error, ErrorKind, Read, Result};
+
 const STDOUT: i32 = 1;
 
-// No descriptor.
-const NONE: i32 = -1;
+// A reader whose every read fails.
+#[derive(Drop)]
+struct Broken;
+
+impl Read for Broken {
+    fn read(&mut self, _buf: &mut [u8]) -> Result<usize> {
+        Err(Error::from(ErrorKind::Other))
+    }
+}
 
 // What `picture` prints for an input, under its heading.
 fn show(heading: &[u8], input: &[u8]) {
@@ -17,7 +28,7 @@ fn show(heading: &[u8], input: &[u8]) {
 // Where a read fails there is no input.
 fn failing() {
     let mut room = [1u8; input::ROOM];
-    let got = input::read(NONE, &mut room);
+    let got = input::read(&mut Broken, &mut room);
     let n = got.count(&room);
     show(b"a read that fails", &room[..n]);
 }

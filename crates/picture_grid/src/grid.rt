@@ -19,7 +19,7 @@ pub const WIDTH: usize = 63;
 pub const CELLS: usize = 1323;
 
 // The cells' marks, from the bottom up, and how many micro-clusters have no place.
-#[derive(Drop)]
+#[derive(Clone, Copy)]
 pub struct Plot {
     pub cells: [u8; CELLS],
     pub hidden: u64,

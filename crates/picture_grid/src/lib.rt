@@ -1,4 +1,6 @@
 // Figures as text, and a grid of marks: rate to the right, another figure upwards.
+#![tactic(auto)]
+
 mod figure;
 mod grid;
 mod upward;

@@ -5,7 +5,7 @@ ghost use Rattle.picture_grid.specs.Upward.{low_of, step_of, title_of};
 
 use text::{Text, add};
 
-#[derive(Drop)]
+#[derive(Clone, Copy)]
 pub enum Upward {
     BeatError,
     Amplitude,

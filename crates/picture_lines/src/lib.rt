@@ -1,4 +1,6 @@
 // Families in words and as a picture, from the figures of their micro-clusters: beat error and amplitude against rate, a letter a family.
+#![tactic(auto)]
+
 mod plot;
 mod row;
 mod words;

@@ -11,7 +11,7 @@ pub const CENTRES: usize = 192;
 // The mark of what is in no family.
 pub(crate) const WEAK: u8 = b'.';
 
-#[derive(Drop)]
+#[derive(Clone, Copy)]
 pub struct Row {
     pub rate: f64,
     pub amplitude: f64,

@@ -1,4 +1,6 @@
 // What `picture` prints for the bytes of its input: the families in words and as a picture.
+#![tactic(auto)]
+
 ghost use Rattle.std.specs.Prelude.{◌≡◌, take};
 ghost use Rattle.dbstream.specs.View.{view};
 ghost use Rattle.text.specs.Text.{room, text_of};

@@ -4,7 +4,7 @@ ghost use Rattle.readout.specs.Found.{nearest_among};
 
 use model::MICROS;
 
-#[derive(Drop)]
+#[derive(Clone, Copy)]
 pub enum Found {
     Nothing,
     At { place: usize, dist: f64 },

@@ -5,7 +5,7 @@ ghost use Rattle.model.specs.Answers.{prediction_said};
 ghost use Rattle.model.specs.ReadOut.{predict_of};
 ghost use Rattle.readout.specs.Seen.{seen, distance_in};
 
-use crate::labels::label_for;
+use crate::label_readout::label_for;
 use feature::{MAX_DIM, sq_euclidean};
 use model::{Body, MICROS, Prediction};
 

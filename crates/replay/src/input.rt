@@ -14,7 +14,7 @@ pub const STOP: u64 = 0;
 const BAD: u64 = 15;
 
 // The first three operands as whole numbers, and all of them as doubles.
-#[derive(Drop)]
+#[derive(Clone, Copy)]
 pub struct Record {
     pub op: u64,
     pub count: usize,

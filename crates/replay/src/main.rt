@@ -2,6 +2,8 @@
 // call by call, with the Rust and with any other implementation of document 01. docs/REPLAY.md has the records and the lines.
 // The stored script, stdin, is seed 0 of the scripts db and den of tools/: document 01's readings to try and the open points. Its answers,
 // stdout, are the oracle's: the Rust's where the Rust speaks, document 01's questions in front of it where not.
+#![tactic(auto)]
+
 mod answers;
 mod db;
 mod den;

@@ -9,7 +9,7 @@ const STDOUT: i32 = 1;
 const ROOM: usize = 512;
 
 // The first `len` of the bytes are still to be written.
-#[derive(Drop)]
+#[derive(Clone, Copy)]
 pub struct Line {
     bytes: [u8; ROOM],
     len: usize,

@@ -6,7 +6,7 @@ use adwin::{Adwin, Verdict};
 use adwin_lent::updated;
 
 // The current window, once one is open.
-#[derive(Drop)]
+#[derive(Clone, Copy)]
 pub struct Watched {
     window: Adwin,
     open: bool,

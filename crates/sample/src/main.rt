@@ -1,4 +1,6 @@
 // Writes a made-up session, as `families` reads it, to standard output.
+#![tactic(auto)]
+
 use text::ROOM;
 
 const STDOUT: i32 = 1;

@@ -1,4 +1,6 @@
 // A made-up session of readings for `families`: a sound movement, a worn kind, another worn kind, two strays, and the sound one that drifts.
+#![tactic(auto)]
+
 ghost use Rattle.std.specs.Prelude.{◌≡◌};
 ghost use Rattle.text.specs.Text.{text_of, Added};
 ghost use Rattle.text.specs.Lent.{write_told, write_of};
@@ -8,7 +10,7 @@ use text::{Text, Writing, add};
 
 // So many readings around a centre, each apart from it by at most half the spread in each figure. Seconds a day that
 // the movement gains and loses, degrees, tenths of a millisecond; the walk is eighths of a second a day, and of a degree, a reading.
-#[derive(Drop)]
+#[derive(Clone, Copy)]
 pub struct Phase {
     pub count: u32,
     pub gain: u32,

@@ -13,7 +13,7 @@ use dbstream::DbStream;
 use model::DbSettings;
 
 // 0, or the number with which the run was refused, and the stream.
-#[derive(Drop)]
+#[derive(Clone, Copy)]
 pub struct DbSession {
     pub number: u64,
     pub stream: DbStream,

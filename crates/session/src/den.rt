@@ -13,7 +13,7 @@ use denstream::DenStream;
 use model::DenSettings;
 
 // 0, or the number with which the run was refused, and the stream.
-#[derive(Drop)]
+#[derive(Clone, Copy)]
 pub struct DenSession {
     pub number: u64,
     pub stream: DenStream,

@@ -1,4 +1,6 @@
 // Whole lists of inserts: a stream is opened, every insert of a lent list is made, and the stream is clustered.
+#![tactic(auto)]
+
 mod db;
 mod den;
 mod points;

@@ -1,4 +1,6 @@
 // The square root of an `f64` as IEEE 754 has it, found in whole numbers.
+#![tactic(auto)]
+
 ghost use Rattle.std.specs.Prelude.{◌≡◌, ◌+◌, ◌*◌, ◌^◌, ◌<◌, ◌≤◌, false};
 ghost use Rattle.std.specs.Float.{binary64};
 ghost use Rattle.std.specs.Float.Ieee.{round};
@@ -15,7 +17,7 @@ const INFINITY: u64 = 0x7ff0_0000_0000_0000;
 const SHIFT: u64 = 0x800_0000;
 
 // The 54 leading digits of a root, and how many rounds of the digit loop give them.
-#[derive(Drop)]
+#[derive(Clone, Copy)]
 struct Found {
     q: u64,
     i: u64,

@@ -1,4 +1,6 @@
 // Text that grows by value: pieces and decimal numbers added at its end, and all of it in a lent slice.
+#![tactic(auto)]
+
 mod number;
 mod refusal;
 mod text;

@@ -9,7 +9,7 @@ use crate::writing::{Writing, write};
 pub const ROOM: usize = 16384;
 
 // The first `len` of the bytes.
-#[derive(Drop)]
+#[derive(Clone, Copy)]
 pub struct Text {
     pub bytes: [u8; ROOM],
     pub len: usize,

@@ -19,7 +19,7 @@ pub fn write(bytes: &[u8], output: &mut [u8]) -> Writing
 }
 
 // The answer of a write into a lent slice: how many bytes it wrote.
-#[derive(Drop)]
+#[derive(Clone, Copy)]
 pub enum Writing {
     Written(usize),
     TooShort,

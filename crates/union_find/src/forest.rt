@@ -10,42 +10,42 @@ use crate::PLACES;
 use lists::cut;
 
 // The parent of each place, a root being its own, and the ranks of the roots.
-#[derive(Drop)]
+#[derive(Clone, Copy)]
 struct UnionFind {
     parent: [usize; PLACES],
     rank: [u8; PLACES],
 }
 
 // A root, and the halving steps on the way to it.
-#[derive(Drop)]
+#[derive(Clone, Copy)]
 struct Reached {
     root: usize,
     steps: u64,
 }
 
 // Finds that were made, and the halving steps of all of them.
-#[derive(Drop)]
+#[derive(Clone, Copy)]
 pub struct Work {
     pub finds: u64,
     pub steps: u64,
 }
 
 // A forest after joins, and the finds that were made for them.
-#[derive(Drop)]
+#[derive(Clone, Copy)]
 struct Joins {
     forest: UnionFind,
     work: Work,
 }
 
 // The root of each place that was sought, 0 at every other, and all finds that were made.
-#[derive(Drop)]
+#[derive(Clone, Copy)]
 pub struct Rooted {
     pub roots: [usize; PLACES],
     pub work: Work,
 }
 
 // Which of two roots goes under which, and the rank of the one above.
-#[derive(Drop)]
+#[derive(Clone, Copy)]
 struct Linked {
     under: usize,
     above: usize,

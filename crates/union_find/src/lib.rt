@@ -1,4 +1,6 @@
 // Joined pairs of places, and the root of each place.
+#![tactic(auto)]
+
 mod forest;
 
 pub use forest::{Rooted, Work, roots};

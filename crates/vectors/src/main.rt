@@ -1,6 +1,8 @@
 // Runs exp2, ln, log2, ceil and sqrt on stored arguments and prints every result by its bits; the gate compares the text
 // with the file stdout. The expected results of exp2, ln and log2 are those of document 01's stand-ins in Rust (tools/oracle),
 // those of ceil and sqrt are IEEE hardware's.
+#![tactic(auto)]
+
 use words::{double_of, double_text, word_at};
 
 const STDIN: i32 = 0;

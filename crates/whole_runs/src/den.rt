@@ -43,8 +43,7 @@ fn figures_of(number: u64, stream: DenStream) -> Figures
 }
 
 // The run of `session`, clustered so many times more; `numbers` gets 0 or the refusal's number of each insert.
-#[unsafe(no_mangle)]
-pub extern "C" fn denstream_run(
+pub fn denstream_run(
     dim: usize,
     eps: f64,
     lambda: f64,

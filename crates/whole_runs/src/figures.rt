@@ -2,7 +2,7 @@
 
 // 0, or the number with which the run was refused, and what its stream says of itself.
 #[repr(C)]
-#[derive(Drop)]
+#[derive(Clone, Copy)]
 pub struct Figures {
     pub number: u64,
     // The micro-clusters held; of a DenStream the potential ones.

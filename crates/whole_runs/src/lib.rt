@@ -1,4 +1,6 @@
-// Whole runs for a program in C or Rust: it lends the values and gets plain numbers. A slice crosses as its pointer and its length.
+// Whole runs: the caller lends the values and gets plain numbers. The crate whole_runs_c exports them to C and Rust.
+#![tactic(auto)]
+
 mod db;
 mod den;
 mod figures;

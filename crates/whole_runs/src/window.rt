@@ -7,7 +7,7 @@ use adwin::{Adwin, Verdict};
 
 // The updates that rang, and the window after all of them: the values it took, its width, mean and variance.
 #[repr(C)]
-#[derive(Drop)]
+#[derive(Clone, Copy)]
 pub struct WindowFigures {
     pub alarms: u64,
     pub taken: u64,
@@ -24,8 +24,7 @@ fn ring(answer: Verdict) -> u64
 }
 
 // A fresh window, and an update by each value in order.
-#[unsafe(no_mangle)]
-pub extern "C" fn window_run(delta: f64, values: &[f64]) -> WindowFigures
+pub fn window_run(delta: f64, values: &[f64]) -> WindowFigures
     ensures { result ≡ window_run delta values.now }
 {
     let mut w = Adwin::new(delta);
