@@ -100,7 +100,8 @@ module _ (d : Float) (s : Sums) (k t : ℕ) where
   unrung_at : (l : List Classed) → must_drop_in (win l) ≡ false → quiet (win l) ≡ shrunk (win l)
   unfolding shrunk
   unrung_at [] h = refl
-  unrung_at (b ∷ l) h = ap (λ (u : Bool). outcome (win (b ∷ l)) (cond u (also_dropped b (search_of d (sums_without s b.bucket) l)) (all_kept s (b ∷ l)))) (sym h)
+  unrung_at (b ∷ l) h =
+      ap (λ (u : Bool). outcome (win (b ∷ l)) (cond u (also_dropped b (search_of d (sums_without s b.bucket) l)) (all_kept s (b ∷ l)))) (sym h)
 
   rung_at : (l : List Classed) → must_drop_in (win l) ≡ true → true ≡ (shrunk (win l)).alarm
   unfolding shrunk

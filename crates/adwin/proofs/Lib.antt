@@ -7,3 +7,4 @@ pub mod Counted
 pub mod Drops
 pub mod Room
 pub mod Updates
+pub mod Laws

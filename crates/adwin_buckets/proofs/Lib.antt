@@ -1,2 +1,2 @@
--- What the hand-made walks of the code cite.
+-- What the proofs of the code cite.
 pub mod Walked

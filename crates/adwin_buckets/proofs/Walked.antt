@@ -33,10 +33,6 @@ either : (p : Bool) → cond p true false ≡ p
 either true = refl
 either false = refl
 
-fewer : (f : Bool) (m : ℕ) → 0 < m → cond f 0 (m - 1) < m
-fewer true m h = h
-fewer false m h = omega arith
-
 no_further : (f : Bool) (i m : ℕ) → 0 < m → cond f i (i + 1) + cond f 0 (m - 1) ≤ i + m
 no_further true i m h = omega arith
 no_further false i m h = omega arith
@@ -63,10 +59,6 @@ module _ (s : Search) where
       ap (λ (r : List Bucket). cond s.fails true (some_fails s.test s.n0 s.t0 r)) (rest_end (s.at + s.left) s.at l (omega arith))
       ∙ either s.fails
 
-  module _ (b : Bucket) (h : 0 < s.left) where
-    pub past_fewer : (past_bucket s b).left < s.left
-    past_fewer = fewer (cut b) s.left h
-
-    -- it stays within the slice
-    pub past_within : (past_bucket s b).at + (past_bucket s b).left ≤ s.at + s.left
-    past_within = no_further (cut b) s.at s.left h
+  -- it stays within the slice
+  pub past_within : (b : Bucket) → 0 < s.left → (past_bucket s b).at + (past_bucket s b).left ≤ s.at + s.left
+  past_within b h = no_further (cut b) s.at s.left h

@@ -6,7 +6,7 @@ use mathlib.Core.Bool.{Bool, true, false, cond}
 use mathlib.Core.List.{List, [], ◌∷◌}
 use lib.IntN.{ℤ, pos, negsuc}
 use Rattle.labels.specs.Label.{place_in, labels_from, labels_of}
-use Rattle.labels.specs.Laws.Label.{label_at, met_by}
+use Rattle.labels.proofs.Laws.Label.{label_at, met_by}
 
 -- −1, or a count from 0
 abbrev pub Counted : ℤ → Type 0

@@ -20,7 +20,7 @@ use Rattle.model.specs.DbInsert.{id_of, is_neighbour, newborn, absorbs, absorbed
 use Rattle.model.specs.DbInsert.{micro_stays, link_stays, neighbours_of, born, joined, placed, nearest_for, cleanup}
 use Rattle.model.specs.Dbstream.{dbstream, taken_of, has_place}
 use Rattle.model.specs.Stream.{taking}
-use Rattle.model.specs.Laws.Stream.{tick_cases}
+use Rattle.model.proofs.Laws.Stream.{tick_cases}
 use Rattle.claims.specs.Lists.{In, Ascending}
 use Rattle.claims.specs.Clock.{Counts}
 use Rattle.claims.specs.Weighed.{Weighed, KeptBody}

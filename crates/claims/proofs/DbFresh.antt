@@ -22,7 +22,7 @@ use Rattle.model.specs.DbInsert.{least_of, id_of, is_neighbour, newborn, absorbe
 use Rattle.model.specs.DbInsert.{link_stays, is_held, neighbours_of, born, joined, placed, nearest_for, cleanup}
 use Rattle.model.specs.Dbstream.{dbstream, has_place, fresh, taken_of}
 use Rattle.model.specs.Stream.{taking}
-use Rattle.model.specs.Laws.Stream.{tick_cases}
+use Rattle.model.proofs.Laws.Stream.{tick_cases}
 use Rattle.claims.specs.Lists.{In, Ascending}
 use Rattle.claims.specs.DbClaims.{Older, Before, Live, LinksHeld, FromFresh, after, told}
 use Rattle.claims.proofs.Order.{and_true, ascending_snoc, in_append, each_retain, ascending_retain, retain_passes}

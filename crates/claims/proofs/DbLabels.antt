@@ -10,8 +10,8 @@ use lib.ListN.{length, get_or, length-map}
 use Rattle.union_find.specs.Pairs.{Chain, Listed, Joined}
 use Rattle.union_find.specs.Laws.Chain.{chain_map, chain_more}
 use Rattle.union_find.specs.Forest.{roots_of}
-use Rattle.labels.specs.Laws.Label as label
-use Rattle.labels.specs.Laws.Label.{LabelsTell}
+use Rattle.labels.proofs.Laws.Label as label
+use Rattle.labels.proofs.Laws.Label.{LabelsTell}
 use Rattle.model.specs.declared.micro.MicroId.{MicroId}
 use Rattle.model.specs.declared.micro.DbMicro.{DbMicro}
 use Rattle.model.specs.declared.link.Link.{Link}

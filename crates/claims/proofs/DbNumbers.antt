@@ -15,7 +15,7 @@ use Rattle.model.specs.DbState.{Settings, Holdings, State}
 use Rattle.model.specs.DbInsert.{newborn, absorbed, micro_stays, born, joined, placed, nearest_for}
 use Rattle.model.specs.Dbstream.{dbstream, fresh, taken_of, has_place, insert_of}
 use Rattle.model.specs.Stream.{taking}
-use Rattle.model.specs.Laws.Stream.{tick_cases}
+use Rattle.model.proofs.Laws.Stream.{tick_cases}
 use Rattle.claims.specs.Clock.{Counts}
 use Rattle.claims.specs.DbClaims.{Live, after, told}
 use Rattle.claims.proofs.Order.{in_retain, map_in, append_in}

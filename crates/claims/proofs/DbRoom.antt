@@ -25,7 +25,7 @@ use Rattle.model.specs.DbInsert.{id_of, pairs_of, gains, absent, before, same_en
 use Rattle.model.specs.DbInsert.{placed, nearest_for}
 use Rattle.model.specs.Dbstream.{dbstream, taken_of, has_place}
 use Rattle.model.specs.Stream.{taking}
-use Rattle.model.specs.Laws.Stream.{tick_cases}
+use Rattle.model.proofs.Laws.Stream.{tick_cases}
 use Rattle.claims.specs.Lists.{In, Ascending}
 use Rattle.claims.specs.DbClaims.{Older, Before, Live, LinksHeld, FromFresh, Fits, gain_unbounded, after, told}
 use Rattle.claims.proofs.Places.{each_in}

@@ -14,7 +14,7 @@ use Rattle.model.specs.DenState.{Settings, Holdings, State}
 use Rattle.model.specs.DenInsert.{absorbs, newborn, placed, nearest_for, potential_stays, outlier_stays}
 use Rattle.model.specs.Denstream.{denstream, has_place, taken_of}
 use Rattle.model.specs.Stream.{taking}
-use Rattle.model.specs.Laws.Stream.{tick_cases}
+use Rattle.model.proofs.Laws.Stream.{tick_cases}
 use Rattle.claims.specs.Clock.{Counts}
 use Rattle.claims.specs.DenClaims.{Kept, Figures, after, told}
 use Rattle.claims.proofs.Places.{at_in, each_in}

@@ -15,7 +15,7 @@ use Rattle.model.specs.Limits.{micros_most}
 use Rattle.model.specs.Nearest.{nearest_of}
 use Rattle.model.specs.Run.{accepted_in}
 use Rattle.model.specs.Stream.{taking}
-use Rattle.model.specs.Laws.Stream.{tick_cases}
+use Rattle.model.proofs.Laws.Stream.{tick_cases}
 use Rattle.model.specs.DenState.{Settings, Holdings, State}
 use Rattle.model.specs.DenInsert.{newborn, placed, nearest_for, potential_stays, outlier_stays}
 use Rattle.model.specs.Denstream.{denstream, fresh, taken_of, has_place}

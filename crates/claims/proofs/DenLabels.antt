@@ -14,12 +14,12 @@ use Rattle.union_find.specs.Pairs.{Chain, Joined}
 use Rattle.union_find.specs.Laws.Chain.{chain_more}
 use Rattle.union_find.specs.Forest.{roots_of}
 use Rattle.union_find.specs.Laws.Union.{table_at}
-use Rattle.union_find.specs.Laws.Root.{RootsTell, roots_tell}
+use Rattle.union_find.proofs.Laws.Root.{RootsTell, roots_tell}
 use Rattle.labels.specs.Group.{Summed, done, taken, passed, sum_from, sums_of}
 use Rattle.labels.specs.Laws.Group.{sums_tell}
 use Rattle.labels.specs.Label as label
-use Rattle.labels.specs.Laws.Label as laws
-use Rattle.labels.specs.Laws.Label.{LabelsTell}
+use Rattle.labels.proofs.Laws.Label as laws
+use Rattle.labels.proofs.Laws.Label.{LabelsTell}
 use Rattle.model.specs.Limits.{micros_most}
 use Rattle.model.specs.Families.{labels_by, counted_by}
 use Rattle.model.specs.DenState.{State}

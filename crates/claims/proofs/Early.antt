@@ -9,7 +9,7 @@ use lib.Ieee.{Float}
 use Rattle.adwin.specs.Buckets.{Classed}
 use Rattle.adwin.specs.Window.{Window, Outcome, grown, shrunk, update_of}
 use Rattle.adwin.specs.Laws.Cases.{update_cases}
-use Rattle.adwin.specs.Laws.History.{not_refused}
+use Rattle.adwin.proofs.Laws.History.{not_refused}
 use Rattle.drift.specs.declared.Nearest.{Nearest}
 use Rattle.drift.specs.declared.Nearest.TheVariants.{Nothing, Distance}
 use Rattle.drift.specs.Monitor.{Monitor, observe_of}
@@ -17,7 +17,7 @@ use Rattle.model.specs.Limits.{clock_most}
 use Rattle.model.specs.Laws.Limits.{limits_agree}
 use Rattle.model.specs.Run.{accepted_in}
 use Rattle.model.specs.Stream.{State, Kind, taking, fresh, taken_of}
-use Rattle.model.specs.Laws.Stream.{tick_drift}
+use Rattle.model.proofs.Laws.Stream.{tick_drift}
 use Rattle.claims.specs.Whole.{after, told}
 use Rattle.claims.proofs.Runs.{always, clock_counts, drift_heard}
 

@@ -9,7 +9,7 @@ use Rattle.lists.specs.Each.{Each}
 use Rattle.lists.specs.Laws.Each.{each_more}
 use Rattle.lists.specs.Retain.{retain}
 use Rattle.union_find.specs.Steps.{places_from}
-use Rattle.union_find.specs.Laws.Steps.{no_find_above_3, finds_count}
+use Rattle.union_find.proofs.Laws.Steps.{no_find_above_3, finds_count}
 use Rattle.model.specs.Limits.{micros_most}
 use Rattle.model.specs.Stream.{State, Kind}
 use Rattle.claims.specs.Lists.{PairBefore, Ascending}

@@ -20,7 +20,7 @@ use Rattle.model.specs.Answers.{is_done}
 use Rattle.model.specs.Outcome.{Outcome, opened}
 use Rattle.model.specs.Run.{run_of, answers_of, one_if_done, accepted_in}
 use Rattle.model.specs.Stream.{State, Kind, taking, fresh, open_of, tick_of, taken_of, insert_by}
-use Rattle.model.specs.Laws.Stream.{tick_params, tick_drift, insert_cases}
+use Rattle.model.proofs.Laws.Stream.{tick_params, tick_drift, insert_cases}
 use Rattle.claims.specs.Clock.{Counts}
 use Rattle.claims.specs.History.{seen_if, seen_from, Rang}
 use Rattle.claims.specs.Whole.{Opens, after, told, seen}

@@ -10,7 +10,7 @@ use Rattle.drift.specs.declared.Nearest.TheVariants.{Nothing}
 use Rattle.model.specs.Limits.{micros_most}
 use Rattle.model.specs.Periods.{Period}
 use Rattle.model.specs.Stream.{State, Kind, fresh}
-use Rattle.model.specs.Laws.Stream.{refused_nothing}
+use Rattle.model.proofs.Laws.Stream.{refused_nothing}
 use Rattle.model.specs.DenState.{Settings}
 use Rattle.model.specs.Dbstream as db
 use Rattle.model.specs.Denstream as den

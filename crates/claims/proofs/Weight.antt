@@ -77,6 +77,8 @@ faded w g n N a b c d =
 -- ---- a double times 1 is rounded to itself
 times_one : (w : Float) → T (fits binary64 w) → Finite w → T (le one w) → T (le (w ⊗ one) w)
 unfolding of_bits fits
+times_one nan f h a = elim h [ ]
+times_one (inf s) f h a = elim h [ ]
 times_one (fin true m e) f (is_fin s n d) a = absurd (let h = le→parts false 1 (pos 0) true m e a in omega (arith, down_pos e))
 times_one (fin false zero e) f (is_fin s n d) a = absurd (let h = le→parts false 1 (pos 0) false 0 e a in omega (arith, down_pos e))
 times_one (fin false (suc m) e) f (is_fin s n d) a =

@@ -10,9 +10,9 @@ use lib.ListN.{length, take, length-take}
 use Rattle.lists.specs.Laws.Rest.{cut_take}
 use Rattle.union_find.specs.Forest.{roots_of, roots_in}
 use Rattle.union_find.specs.Steps.{find_steps}
-use Rattle.union_find.specs.Laws.Root.{sought_length}
+use Rattle.union_find.proofs.Laws.Root.{sought_length}
 use Rattle.labels.specs.Label.{labels_of, labels_in}
-use Rattle.labels.specs.Laws.Label.{labels_first, labels_sought}
+use Rattle.labels.proofs.Laws.Label.{labels_first, labels_sought}
 use Rattle.model.specs.declared.micro.MicroId.{MicroId}
 use Rattle.model.specs.declared.link.Link.{Link}
 use Rattle.model.specs.Limits.{micros_most}

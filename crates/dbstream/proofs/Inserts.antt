@@ -22,7 +22,7 @@ use Rattle.model.specs.Any.{any}
 use Rattle.model.specs.Limits.{micros_most}
 use Rattle.model.specs.Answers.{is_done}
 use Rattle.model.specs.Questions.{insertion_asked}
-use Rattle.model.specs.Laws.Stream.{inserted_by}
+use Rattle.model.proofs.Laws.Stream.{inserted_by}
 use Rattle.model.specs.DbState.{Holdings, State}
 use Rattle.model.specs.DbInsert.{is_neighbour, neighbours_of, is_absorbed, newborn, absorbs, absorbed, pairs_of, gain_of, born, joined, placed}
 use Rattle.model.specs.Dbstream.{dbstream, tick_of, has_place, insert_of}

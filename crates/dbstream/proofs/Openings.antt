@@ -6,7 +6,7 @@ use Rattle.feature.specs.Feature.{max_dim}
 use Rattle.model.specs.declared.answers.Opening.{Opening}
 use Rattle.model.specs.Answers.{opening_number, is_open}
 use Rattle.model.specs.Numbers.{db_opening_no}
-use Rattle.model.specs.Laws.Numbers.{db_opening_said}
+use Rattle.model.proofs.Laws.Numbers.{db_opening_said}
 use Rattle.model.specs.Laws.Open.{opened_as}
 use Rattle.model.specs.DbState.{Settings, State}
 use Rattle.model.specs.Dbstream.{dbstream, asked, fresh, open_of}

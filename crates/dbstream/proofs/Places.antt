@@ -50,13 +50,13 @@ pub linked_next : (s u : DbStream) (ls : List Link) → Linked s u → Linked s 
 linked_next s u ls h = record { rest = ap (λ (v : DbStream). with_links v ls) h.rest }
 
 -- the links that all gains make
-abbrev pub goal : DbStream → (lambda t : Float) → List MicroId → ℕ → List Link
-goal s lambda t ids k = foldl (gain_of lambda t) (take s.link_count s.links) (pairs_of (take k ids))
+abbrev pub gains_due : DbStream → (lambda t : Float) → List MicroId → ℕ → List Link
+gains_due s lambda t ids k = foldl (gain_of lambda t) (take s.link_count s.links) (pairs_of (take k ids))
 
 -- u is s with the point in its micro-clusters and with the loop's links, of which n are held: it is document 01's before the tick
 module _ (s : DbStream) (f : Scan) (x : List Float) (next : MicroId) (ms : List DbMicro) (count : ℕ) (u : DbStream) (n : ℕ) where
   abbrev links : List Link
-  links = goal s s.params.settings.lambda s.t f.ids f.count
+  links = gains_due s s.params.settings.lambda s.t f.ids f.count
 
   abbrev with_held : MicroId → List DbMicro → List Link → State
   with_held q l ls = taking (view s) (holds q l ls)

@@ -14,10 +14,10 @@ use Rattle.lists.specs.Laws.Rest.{cut_take}
 use Rattle.union_find.specs.Forest.{roots_of, roots_in}
 use Rattle.union_find.specs.Steps.{find_steps}
 use Rattle.union_find.specs.Laws.Union.{table_at}
-use Rattle.union_find.specs.Laws.Root.{roots_tell, sought_length, sought_root, sought_low}
+use Rattle.union_find.proofs.Laws.Root.{roots_tell, sought_length, sought_root, sought_low}
 use Rattle.labels.specs.Label as label
 use Rattle.labels.specs.Label.{labels_of}
-use Rattle.labels.specs.Laws.Label.{labels_length, labels_agree}
+use Rattle.labels.proofs.Laws.Label.{labels_length, labels_agree}
 use Rattle.labels.specs.Group.{sum_from, sums_of}
 use Rattle.labels.specs.Laws.Group.{sum_agree}
 use Rattle.model.specs.declared.micro.DenMicro.{DenMicro}

@@ -9,7 +9,7 @@ use Rattle.model.specs.declared.answers.Insertion.{Insertion}
 use Rattle.model.specs.Answers.{is_done}
 use Rattle.model.specs.Questions.{insertion_asked}
 use Rattle.model.specs.Laws.Insert.{taken_asks}
-use Rattle.model.specs.Laws.Stream.{inserted_by}
+use Rattle.model.proofs.Laws.Stream.{inserted_by}
 use Rattle.model.specs.DenState.{State}
 use Rattle.model.specs.Denstream.{denstream, tick_of, insert_of}
 use Rattle.den_placement.specs.declared.choice.Placement.{Placement}

@@ -12,7 +12,7 @@ use Rattle.model.specs.Numbers.{den_opening_no}
 use Rattle.model.specs.Questions.{first_no, questions}
 use Rattle.model.specs.Periods.{bm_of}
 use Rattle.model.specs.Stream as stream
-use Rattle.model.specs.Laws.Numbers.{den_opening_said}
+use Rattle.model.proofs.Laws.Numbers.{den_opening_said}
 use Rattle.model.specs.Laws.Open.{one_more, opened_as}
 use Rattle.model.specs.DenState.{Settings, State}
 use Rattle.model.specs.Denstream.{denstream, asked, fresh, open_of}

@@ -13,7 +13,7 @@ use Rattle.lists.specs.Laws.Rest.{cut_take}
 use Rattle.db_micro.specs.Held.{cut_to}
 use Rattle.dbstream.specs.declared.stream.DbStream.{DbStream}
 use Rattle.dbstream.specs.View.{view, dim_of}
-use Rattle.labels.specs.Laws.Label.{labels_tell}
+use Rattle.labels.proofs.Laws.Label.{labels_tell}
 use Rattle.drift.specs.declared.DriftReport.{DriftReport}
 use Rattle.drift.specs.Monitor.{report_of}
 use Rattle.model.specs.declared.answers.ReadOut.{ReadOut}

@@ -64,7 +64,8 @@ module _ (bytes : List ℕ) where
   module _ (few : length bytes ≤ input_most) where
     pub too_short : length bytes < head_size → false ≡ is_whole bytes
     too_short h =
-        ap₂ (λ (a b : Bool). a && b && eqb (length bytes % 8) 0 && points) (sym (le-leb (length bytes) input_most few)) (sym (lt-leb head_size (length bytes) h))
+        ap₂ (λ (a b : Bool). a && b && eqb (length bytes % 8) 0 && points)
+        (sym (le-leb (length bytes) input_most few)) (sym (lt-leb head_size (length bytes) h))
 
     module _ (many : head_size ≤ length bytes) where
       asked : (c : Bool) → eqb (length bytes % 8) 0 ≡ c → c && points ≡ is_whole bytes

@@ -14,7 +14,7 @@ use Rattle.model.specs.Questions.{dim_in_range, positive, lambda_in_range, share
 use Rattle.model.specs.Outcome.{Opened, Outcome}
 use Rattle.model.specs.Stream as stream
 use Rattle.model.specs.DbState.{Settings, State}
-use Rattle.model.specs.Dbstream.{asked, open_of}
+use Rattle.model.specs.Dbstream.{open_of}
 use Rattle.input_session.specs.Input.{input_most, head_size, settings_in, points_in, is_whole}
 use Rattle.input_session.specs.Session.{Ran, ran, insert_all, inserted_ran, opened_ran, ran_of}
 

@@ -15,7 +15,7 @@ use Rattle.lists.specs.Rest.{rest}
 use Rattle.lists.specs.Laws.Rest.{rest_step, rest_end, cut_take}
 use Rattle.union_find.specs.Forest.{places}
 use Rattle.labels.specs.Label.{place_in, meet, labels_from, labels_of, labels_in}
-use Rattle.labels.specs.Laws.Label.{place_le, meet_old, meet_new, met_by}
+use Rattle.labels.proofs.Laws.Label.{place_le, meet_old, meet_new, met_by}
 
 -- ---- the search of a root among the first `count` of those met
 module _ (v count i : ℕ) (met : List ℕ) (h : i < count) (fits : count ≤ length met) where

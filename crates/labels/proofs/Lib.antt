@@ -1,3 +1,4 @@
 -- What the proofs of `src/` cite, on plain lists.
 mod Labelling
 mod Summing
+pub mod Laws

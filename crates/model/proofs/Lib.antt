@@ -1,2 +1,3 @@
 -- What only the proofs here use.
 pub mod Padding
+pub mod Laws

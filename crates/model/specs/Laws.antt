@@ -6,6 +6,4 @@ pub mod Periods
 pub mod Tp
 pub mod Insert
 pub mod Open
-pub mod Stream
-pub mod Numbers
 pub mod Examples

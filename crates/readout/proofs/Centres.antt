@@ -6,7 +6,7 @@ use native.Mathlib.Omega.{arith}
 use mathlib.Core.Path.{◌≡◌, sym, ap, ap₂, ◌∙◌, subst}
 use mathlib.Core.List.{List, [], ◌∷◌, ◌++◌, map}
 use lib.Ieee.{Float}
-use lib.ListN.{length, take, drop, get_or, length-append, length-map, length-drop}
+use lib.ListN.{length, take, drop, get_or, length-append, length-drop}
 use lib.Seq.{take_at, drop_at, drop-drop, get_or-take, length-take-le}
 use mir.Val.{Val}
 use denote.Array.{each}
@@ -31,7 +31,7 @@ Wide w (b ∷ l) = (length b.cf.mean ≡ w) × Wide w l
 pub means_wide : (l : List Body) (vs : List Val) → shadow (each Body (row the_type).own_val l vs) → Wide max_dim l
 means_wide [] vs p = tt
 means_wide (b ∷ l) [] p = absurd p
-means_wide (b ∷ l) (v ∷ vs) p = (sym (length-map b.cf.mean _) ∙ p.0.1.1.0.1.1.1.0.1.0.1, means_wide l vs p.1)
+means_wide (b ∷ l) (v ∷ vs) p = (p.0.1.1.0.1.1.1.0.1.0.1, means_wide l vs p.1)
 
 wide_at : (w : ℕ) (l : List Body) → Wide w l → (i : ℕ) (z : Body) → i < length l → length (get_or l i z).cf.mean ≡ w
 wide_at w [] h i z k = absurd (omega arith)

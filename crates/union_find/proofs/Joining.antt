@@ -15,8 +15,8 @@ use Rattle.union_find.specs.Steps.{union_steps, join_steps, joins_steps, work_by
 use Rattle.union_find.specs.Inside.Told.{joins_by}
 use Rattle.union_find.specs.Inside.WellFormed.{Sound}
 use Rattle.union_find.specs.Laws.Union.{new_law}
-use Rattle.union_find.specs.Laws.Join.{join_in, join_out, steps_in, steps_out, join_sound}
-use Rattle.union_find.specs.Laws.Steps.{joins_few}
+use Rattle.union_find.proofs.Laws.Join.{join_in, join_out, steps_in, steps_out, join_sound}
+use Rattle.union_find.proofs.Laws.Steps.{joins_few}
 
 -- ---- the two ways of a join
 module _ (n : ℕ) (u : UnionFind) (e : ℕ × ℕ) where

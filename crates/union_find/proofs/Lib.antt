@@ -3,3 +3,4 @@ mod Finding
 mod Linking
 mod Joining
 mod Seeking
+pub mod Laws

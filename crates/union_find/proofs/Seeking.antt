@@ -20,8 +20,8 @@ use Rattle.union_find.specs.Inside.Told.{found_told, joins_by}
 use Rattle.union_find.specs.Inside.WellFormed.{Ranked}
 use Rattle.union_find.specs.Laws.WellFormed.{root_of}
 use Rattle.union_find.specs.Laws.Find.{Finds, find_law}
-use Rattle.union_find.specs.Laws.Root.{forest_tells, root_at, sought_length, sought_at}
-use Rattle.union_find.specs.Laws.Steps.{finds_most, steps_most}
+use Rattle.union_find.proofs.Laws.Root.{forest_tells, root_at, sought_length, sought_at}
+use Rattle.union_find.proofs.Laws.Steps.{finds_most, steps_most}
 
 -- the places passed, with parents p that the finds have made of p₀: their roots are noted where they are sought
 pub record Seeking (sought : List Bool) (es : List (ℕ × ℕ)) (p₀ p roots : List ℕ) (finds steps i : ℕ) : Type 0 where

@@ -5,7 +5,3 @@ pub mod Sum
 pub mod WellFormed
 pub mod Find
 pub mod Union
-pub mod Join
-pub mod Root
-pub mod Steps
-pub mod Examples

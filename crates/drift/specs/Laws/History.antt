@@ -8,7 +8,7 @@ use Rattle.adwin.specs.Window as window
 use Rattle.adwin.specs.Window.{Window}
 use Rattle.adwin.specs.History.{run_of, Told}
 use Rattle.adwin.specs.Laws.Cases.{Takes, update_takes}
-use Rattle.adwin.specs.Laws.History.{told_from_history}
+use Rattle.adwin.proofs.Laws.History.{told_from_history}
 use Rattle.drift.specs.declared.Nearest.{Nearest}
 use Rattle.drift.specs.declared.Nearest.TheVariants.{Nothing, Distance}
 use Rattle.drift.specs.declared.LastAlarm.{LastAlarm}

@@ -55,7 +55,7 @@ step_last i k =
 steps_below : {z h : Float} (n : ℕ) → n ≤ 19 → In true u 2 u z → In false u (2 ^ 33) u h → Under (steps z (suc n) h)
 unfolding steps
 steps_below zero N i k = step_last i k
-steps_below (suc n) N i k = steps_below n (omega arith) i (step_half n (omega arith) i k)
+steps_below {z = z} {h = h} (suc n) N i k = steps_below {h = step z (suc (suc n)) h} n (omega arith) i (step_half n (omega arith) i k)
 
 -- ---- y above −1, where k is 0
 rest_in : (m : ℕ) (e : ℤ) → down e ≤ m * up e * 2 ^ 32 → m * up e < down e → In true u 4 u (fin true m e ⊖ neg (whole 0))

@@ -6,7 +6,7 @@ use Rattle.std.specs.Float.Ieee.{up, down, size, le, of_bits}
 use Rattle.std.specs.Float.Ieee.Fits.{down_pos}
 use Rattle.std.specs.Float.Ieee.Digits.{size-lt, size-le, size_reaches}
 use Rattle.std.specs.Float.Ieee.Bits.{is_true}
-use Rattle.float.specs.Rounded.{◌⊘◌, nought, one, two}
+use Rattle.float.specs.Rounded.{◌⊕◌, ◌⊗◌, ◌⊘◌, nought, one, two, whole}
 use Rattle.float.specs.TwoTo.{L}
 use Rattle.float.specs.Ln.{exponent_of, plus_power, series, ln_by, ln_of, log2_of}
 use Rattle.float.specs.Laws.Opened.{div_fin}
@@ -77,8 +77,8 @@ mantissa_in (sized m e l h) =
 series_in : {q h : Float} (n : ℕ) → n ≤ 21 → In false 16 0 4 q → In false 16 0 22 h → In false 16 0 22 (series q n h)
 unfolding series
 series_in zero N i k = k
-series_in (suc n) N i k =
-    series_in n (omega arith) i
+series_in {q = q} {h = h} (suc n) N i k =
+    series_in {h = h ⊗ q ⊕ one ⊘ whole (2 * n + 1)} n (omega arith) i
     (add_in 4 tt tt (mul_in 4 tt 0 6 tt k i)
     (div_in 4 tt 0 16 tt tt (one_in 4 tt) (whole_in 4 tt (2 * n + 1) 16 688 (omega arith) (omega arith) (omega arith))))
 

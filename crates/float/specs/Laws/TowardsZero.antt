@@ -1,9 +1,9 @@
 -- A double cut towards zero, by the cases of its exponent and in plain arithmetic. Assumes nothing.
-use Rattle.std.specs.Prelude.{◌≡◌, ℕ, zero, suc, ◌+◌, ◌-◌, ◌*◌, ◌/◌, ◌^◌, ◌<◌, ◌≤◌, true, false, not, T, ℤ, pos, negsuc, refl, Float}
+use Rattle.std.specs.Prelude.{◌≡◌, ℕ, zero, suc, ◌+◌, ◌-◌, ◌*◌, ◌/◌, ◌^◌, ◌<◌, ◌≤◌, true, false, T, ℤ, pos, negsuc, refl, Float}
 use Rattle.std.proofs.Common.{sym, ap, ◌∙◌, subst, le_trans, le_of_eq, lt_of_lt_of_le, lt_of_le_of_lt, lt_of_not-le, not-le_of_lt, mul-one, mul_comm, mul_assoc, mul_right_comm, mul-le-mul_right, mul-lt-mul_of_pos_right, le_of_mul-le-mul_right, lt_of_mul-lt-mul_right, le-div_iff_mul-le, div-lt_iff_lt-mul, div-le_self, div-one, le_refl, arith, true≢false, ltb→lt, lit<, pow-add, pow_pos, pow_mono}
 use Rattle.std.proofs.Math.Nat.{div-div-eq-div-mul, mul-div-mul_right, div-eq_of_lt}
 use Rattle.std.specs.Float.{nan, inf, fin, binary64}
-use Rattle.std.specs.Float.Ieee.{up, down, size, fits, round, neg, lt, of_int, to_bits, of_bits}
+use Rattle.std.specs.Float.Ieee.{up, down, fits, round, neg, lt, of_int, to_bits, of_bits}
 use Rattle.std.specs.Float.Ieee.Digits.{size-le, size_reaches}
 use Rattle.std.specs.Float.Ieee.Fits.{down_pos, round-fits}
 use Rattle.std.specs.Float.Ieee.Exact.{HasValue, round_exact}

@@ -10,7 +10,7 @@ use Rattle.std.specs.Float.Ieee.{add, of_bits}
 use Rattle.union_find.specs.Pairs.{Joined, Chain}
 use Rattle.union_find.specs.Forest.{places, roots_of}
 use Rattle.union_find.specs.Laws.Union.{table_at}
-use Rattle.union_find.specs.Laws.Root.{RootsTell, roots_tell}
+use Rattle.union_find.proofs.Laws.Root.{RootsTell, roots_tell}
 use Rattle.labels.specs.Group.{sum_from, sums_of, Summed, done, taken, passed}
 
 -- one more place: its weight counts where its root is v

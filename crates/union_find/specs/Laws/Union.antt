@@ -1,7 +1,7 @@
 -- What linking and a union do to a sound forest: two classes become one, and the others stay. Assumes nothing.
 use Rattle.std.specs.Prelude.{ℕ, zero, suc, ◌+◌, ◌*◌, ◌^◌, ◌<◌, ◌≤◌, ◌≡◌, refl, ◌≢◌, ◌⊎◌, List, [], ◌∷◌, ◌++◌, length, get_or, set}
 use Rattle.std.proofs.Common.{sym, ◌∙◌, ap, ap₂, subst, inl, inr, ⊎_elim, arith, add-one, lit≤, length-set, length-append, get_or-set_same, get_or-set_other, pow-add}
-use Rattle.std.proofs.Math.Logic.{by_cases, Ne·symm}
+use Rattle.std.proofs.Math.Logic.{by_cases, Ne-symm}
 use Rattle.std.proofs.Math.Decide.{ℕ_discrete, dec_lt}
 use Rattle.std.proofs.lemmas.List.{length-replicate, get_or-replicate, get_or_at}
 use Rattle.std.proofs.Math.ListN.{get_or-append}
@@ -78,13 +78,13 @@ module _ (u : UnionFind) (wf : Sound u) (x y a b : ℕ) (ha : a < places) (hb : 
       w = link_well p r wf x y hx hy tx ty n r (λ i iy. refl) wf.rlen h (omega arith) (omega arith)
 
   at_more : x ≢ y → get_or r y 0 < get_or r x 0 → Joins u a b (record { parent = set p y x; rank = r })
-  at_more n h = record { sound = w; merges = link_merges p r wf y x hy hx ty tx (Ne·symm n) r w a b ha hb (inr (ea, eb)) }
+  at_more n h = record { sound = w; merges = link_merges p r wf y x hy hx ty tx (Ne-symm n) r w a b ha hb (inr (ea, eb)) }
     where
       w : WellFormed (set p y x) r
-      w = link_well p r wf y x hy hx ty tx (Ne·symm n) r (λ i iy. refl) wf.rlen h (omega arith) (omega arith)
+      w = link_well p r wf y x hy hx ty tx (Ne-symm n) r (λ i iy. refl) wf.rlen h (omega arith) (omega arith)
 
   at_equal : x ≢ y → get_or r x 0 ≡ get_or r y 0 → Joins u a b (record { parent = set p y x; rank = set r x (get_or r x 0 + 1) })
-  at_equal n h = record { sound = w; merges = link_merges p r wf y x hy hx ty tx (Ne·symm n) r' w a b ha hb (inr (ea, eb)) }
+  at_equal n h = record { sound = w; merges = link_merges p r wf y x hy hx ty tx (Ne-symm n) r' w a b ha hb (inr (ea, eb)) }
     where
       r' : List ℕ
       r' = set r x (get_or r x 0 + 1)
@@ -101,7 +101,7 @@ module _ (u : UnionFind) (wf : Sound u) (x y a b : ℕ) (ha : a < places) (hb : 
 
       w : WellFormed (set p y x) r'
       w =
-          link_well p r wf y x hy hx ty tx (Ne·symm n) r' (λ i ix. get_or-set_other r x i (get_or r x 0 + 1) 0 ix) (length-set r x (get_or r x 0 + 1) ∙ wf.rlen)
+          link_well p r wf y x hy hx ty tx (Ne-symm n) r' (λ i ix. get_or-set_other r x i (get_or r x 0 + 1) 0 ix) (length-set r x (get_or r x 0 + 1) ∙ wf.rlen)
           (omega (arith, now_x)) (omega (arith, now_x)) light
 
   -- a link of the roots of a and b

@@ -1,2 +1,0 @@
--- What the hand-made walks of the code cite.
-pub mod Clauses

@@ -1,0 +1,28 @@
+-- `clustered_text` meets its contract. Assumes nothing.
+use mathlib.Core.Path.{◌≡◌, refl, ◌∙◌}
+use lib.IntN.{negsuc}
+use lib.ListN.{length, replicate}
+use Rattle.model.specs.Limits.{micros_most}
+use Rattle.dbstream.specs.View.{view}
+use Rattle.families_text.proofs.Clustered.{ids_are, text_is}
+use borrow.Author.Rules.{rules}
+use Rattle.families_text.proofs.clustered_text.Goals as goal
+
+pub returns : goal.returns
+returns c =
+    let s = c.args in
+    let u = c.cluster-told.result.stream in
+    let n = c.micro_count-n in
+    let ids = c.ids_of-ids in
+    let labels = c.labels in
+    let report = c.drift-report in
+    let places : length u.micros ≡ micros_most = search rules in
+    c.listing.ensures
+    ∙ text_is (view s.stream) (view u) n.result ids.result labels.result labels.new.out (replicate micros_most (negsuc 0))
+    report.result (search rules) refl c.cluster-told.ensures.stream_value
+    (record {
+      count = n.ensures;
+      names = ids_are u n.result ids.result n.ensures places ids.ensures;
+      told = labels.ensures;
+      drift = report.ensures;
+    })

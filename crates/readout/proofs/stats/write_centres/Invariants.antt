@@ -1,0 +1,11 @@
+use Prim.Native.Nat.{◌*◌, ◌-◌, ◌≤◌}
+use mathlib.Core.Path.{◌≡◌}
+use Rattle.readout.proofs.Centres.{centres_due}
+use Rattle.readout.proofs.Copies.{partly}
+use Rattle.readout.proofs.stats.write_centres.Given as goal
+
+abbrev pub invariant-loop-i : goal.invariant-loop-i
+invariant-loop-i l = (l.i ≤ l.end) × (l.out ≡ partly (centres_due l.width l.end l.bodies) l.initial.out (l.i * l.width))
+
+abbrev pub decreases-loop-i : goal.decreases-loop-i
+decreases-loop-i l = l.end - l.i

@@ -1,0 +1,21 @@
+-- `add_reading` meets its contract. Assumes nothing.
+use mathlib.Core.Path.{ap}
+use lib.Ieee.{Float}
+use Rattle.float.specs.Rounded.{◌⊕◌, ◌⊖◌, ◌⊗◌, whole}
+use Rattle.text.specs.Laws.Pieces.{both, worded}
+use Rattle.sample_session.specs.Sample.{double_bytes, walked}
+use Rattle.sample_session.proofs.add_reading.Goals as goal
+
+pub returns : goal.returns
+returns c =
+    let a = c.args in
+    let p = a.p in
+    let gain = ap (λ (u : Float). double_bytes (whole p.gain ⊖ whole p.loss ⊕ whole p.spread ⊗ u ⊕ walked p a.i))
+    c.unit.ensures
+    in
+    let swing = ap (λ (u : Float). double_bytes (whole p.amplitude ⊕ whole p.spread ⊗ u ⊖ walked p a.i))
+    c.unit-2.ensures
+    in
+    let error = ap (λ (u : Float). double_bytes (whole p.beat_error ⊕ whole p.spread ⊗ u)) c.unit-3.ensures in
+    both (both (worded gain c.add_double-rated.ensures) (worded swing c.add_double-swung.ensures))
+    (worded error c.add_double.ensures)

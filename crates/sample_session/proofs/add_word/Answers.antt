@@ -1,0 +1,7 @@
+-- `add_word` meets its contract. Assumes nothing.
+use Rattle.sample_session.specs.Sample.{word_bytes}
+use Rattle.sample_session.proofs.add_word.Goals as goal
+
+pub returns : goal.returns
+unfolding word_bytes
+returns c = c.add.ensures
