@@ -2,6 +2,3 @@
 pub mod Points
 pub mod Going
 pub mod Cases
-pub mod Runs
-pub mod DbRuns
-pub mod DenRuns

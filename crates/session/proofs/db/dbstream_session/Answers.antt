@@ -1,7 +1,7 @@
 -- `dbstream_session` meets its contract. Assumes nothing.
 use Rattle.model.specs.Dbstream.{insert_of, cluster_of}
 use Rattle.dbstream.specs.View.{view}
-use Rattle.session.specs.Laws.DbRuns.{both_told}
+use Rattle.session.proofs.Laws.DbRuns.{both_told}
 use Rattle.session.specs.Laws.Cases.{opening_refused, slice_short, run_told}
 use Rattle.session.proofs.db.dbstream_session.Goals as goal
 

@@ -1,7 +1,7 @@
 -- `denstream_session` meets its contract. Assumes nothing.
 use Rattle.model.specs.Denstream.{insert_of, cluster_of}
 use Rattle.denstream.specs.View.{view}
-use Rattle.session.specs.Laws.DenRuns.{both_told}
+use Rattle.session.proofs.Laws.DenRuns.{both_told}
 use Rattle.session.specs.Laws.Cases.{opening_refused, slice_short, run_told}
 use Rattle.session.proofs.den.denstream_session.Goals as goal
 

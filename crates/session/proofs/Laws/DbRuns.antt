@@ -6,7 +6,7 @@ use Rattle.claims.specs.DbClaims.{LabelsTellFamilies, OneStream}
 use Rattle.session.specs.Points.{points_of}
 use Rattle.session.specs.Whole.{Session, session_of}
 use Rattle.session.specs.DbTold.{RunTold}
-use Rattle.session.specs.Laws.Runs as runs
+use Rattle.session.proofs.Laws.Runs as runs
 use Rattle.session.specs.Demand3.{demand_3}
 
 pub both_told :
