@@ -1,4 +1,4 @@
--- What the proofs of `src/` cite, on plain lists and numbers.
+-- What the proofs of `src/` cite, on plain lists and numbers, and laws (Laws) that upper crates cite too.
 pub mod Classes
 pub mod Gap
 pub mod Carries

@@ -11,8 +11,8 @@ use crate::two_to::L;
 
 // The e with v = m * 2^e and 1 <= m < 2.
 fn exponent(v: f64) -> u64
-    requires t { T (le one v) }
-    requires t_2 { T (is_finite v) }
+    requires from_one { T (le one v) }
+    requires finite { T (is_finite v) }
     ensures { (result ≡ exponent_of v) × (result ≤ 1023) }
 {
     f64::to_bits(v) / LEAD - BIAS

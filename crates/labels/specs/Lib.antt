@@ -1,4 +1,4 @@
--- Document 01, Families: labels and sums of places by their roots, and their laws.
+-- Document 01, Families: labels and sums of places by their roots, and laws of them; others stand in proofs/Laws.
 pub mod Label
 pub mod Group
 pub mod Laws

@@ -1,3 +1,3 @@
--- What only the proofs here use.
+-- What only the proofs here use, and laws (Laws) that upper crates cite too.
 pub mod Padding
 pub mod Laws

@@ -1,4 +1,4 @@
--- What the proofs of `src/` cite, on plain lists.
+-- What the proofs of `src/` cite, on plain lists, and laws (Laws) that upper crates cite too.
 mod Finding
 mod Linking
 mod Joining

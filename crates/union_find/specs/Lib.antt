@@ -1,4 +1,4 @@
--- Document 01, Families: joined pairs of places, `UnionFind` as definitions, and their laws.
+-- Document 01, Families: joined pairs of places, `UnionFind` as definitions, and laws of them; others stand in proofs/Laws.
 pub mod Pairs
 pub mod Forest
 pub mod Steps

@@ -5,7 +5,7 @@ use Rattle.float.proofs.logarithm.exponent.Goals.{Start}
 use Rattle.float.proofs.logarithm.exponent.Goals as goal
 
 known : (c : goal.Start) → Scaled c.args.v
-known c = scaled c.args.v (subst T (sym c.well_formed.0.1) tt) c.requires.t c.requires.t_2
+known c = scaled c.args.v (subst T (sym c.well_formed.0.1) tt) c.requires.from_one c.requires.finite
 
 pub float_to_bits-result : goal.float_to_bits-result
 float_to_bits-result c = (known c).no_nan

@@ -24,7 +24,7 @@ is_finite_lem : (c : goal.Then-is_finite) → is_finite c.args.v ≡ true
 is_finite_lem c = sym c.is_finite.ensures ∙ c.if-is_finite.true
 
 pub exponent-e-requires : goal.exponent-e-requires
-exponent-e-requires c = record { t = subst T (sym (at_least c)) tt; t_2 = subst T (sym (is_finite_lem c)) tt }
+exponent-e-requires c = record { from_one = subst T (sym (at_least c)) tt; finite = subst T (sym (is_finite_lem c)) tt }
 
 pub power_up-requires : goal.power_up-requires
 power_up-requires c = c.exponent-e.ensures.1
