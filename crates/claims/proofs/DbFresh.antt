@@ -11,7 +11,6 @@ use Rattle.lists.specs.Each.{Each}
 use Rattle.lists.specs.Laws.Each.{each_more, each_append}
 use Rattle.float.specs.Rounded.{◌⊕◌, one}
 use Rattle.lists.specs.Retain.{retain}
-use Rattle.drift.specs.declared.Nearest.TheVariants.{Nothing}
 use Rattle.model.specs.declared.micro.MicroId.{MicroId}
 use Rattle.model.specs.declared.micro.DbMicro.{DbMicro}
 use Rattle.model.specs.declared.link.Link.{Link}
@@ -30,6 +29,7 @@ use Rattle.claims.proofs.Order.{in_retain, any_in, each_map, ascending_map, in_m
 use Rattle.claims.proofs.Runs.{always, clock_counts}
 use Rattle.claims.proofs.DbCases.{placed_cases}
 use Rattle.claims.proofs.DbGains.{Smaller, gain_each, gain_ascending, fold_gain, pairs_each}
+use Rattle.std.specs.Prelude.{None}
 
 -- both ends are held
 abbrev pub Held : List DbMicro → Link → Type 0
@@ -217,7 +217,7 @@ numbered_fresh p =
     record { ascending = tt; below_next = tt; next_limit = omega arith; links = record { ascending = tt; smaller_first = tt; ends = tt } }
 
 -- ---- a fresh one holds nothing near
-pub none_near : (p : Settings) (x : List Float) → nearest_for (fresh p) x ≡ Nothing
+pub none_near : (p : Settings) (x : List Float) → nearest_for (fresh p) x ≡ None
 unfolding least_of
 none_near p x = refl
 

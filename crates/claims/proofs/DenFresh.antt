@@ -10,7 +10,6 @@ use lib.Ieee.{Float}
 use borrow.Author.Tests.{ltb-true}
 use Rattle.float.specs.Rounded.{◌⊕◌, one}
 use Rattle.lists.specs.Laws.Sizes.{retain_length, without_length}
-use Rattle.drift.specs.declared.Nearest.TheVariants.{Nothing}
 use Rattle.model.specs.Limits.{micros_most}
 use Rattle.model.specs.Nearest.{nearest_of}
 use Rattle.model.specs.Run.{accepted_in}
@@ -23,6 +22,7 @@ use Rattle.claims.specs.DenClaims.{FromFresh, after, told}
 use Rattle.claims.proofs.Places.{at_below}
 use Rattle.claims.proofs.Runs.{always, clock_counts}
 use Rattle.claims.proofs.DenCases.{placed_cases}
+use Rattle.std.specs.Prelude.{None}
 
 -- ---- at most 64 in both pools together
 abbrev Few : Holdings → Type 0
@@ -59,7 +59,7 @@ few_taken s x e h =
     )) f
 
 -- ---- a fresh one holds nothing near
-pub none_near : (p : Settings) (x : List Float) → nearest_for (fresh p) x ≡ Nothing
+pub none_near : (p : Settings) (x : List Float) → nearest_for (fresh p) x ≡ None
 unfolding nearest_for nearest_of
 none_near p x = refl
 

@@ -10,9 +10,7 @@ use Rattle.adwin.specs.Buckets.{Classed}
 use Rattle.adwin.specs.Window.{Window, Outcome, grown, shrunk, update_of}
 use Rattle.adwin.specs.Laws.Cases.{update_cases}
 use Rattle.adwin.proofs.Laws.History.{not_refused}
-use Rattle.drift.specs.declared.Nearest.{Nearest}
-use Rattle.drift.specs.declared.Nearest.TheVariants.{Nothing, Distance}
-use Rattle.drift.specs.Monitor.{Monitor, observe_of}
+use Rattle.drift.specs.Monitor.{Monitor, observe_of, Nearest}
 use Rattle.model.specs.Limits.{clock_most}
 use Rattle.model.specs.Laws.Limits.{limits_agree}
 use Rattle.model.specs.Run.{accepted_in}
@@ -20,6 +18,7 @@ use Rattle.model.specs.Stream.{State, Kind, taking, fresh, taken_of}
 use Rattle.model.proofs.Laws.Stream.{tick_drift}
 use Rattle.claims.specs.Whole.{after, told}
 use Rattle.claims.proofs.Runs.{always, clock_counts, drift_heard}
+use Rattle.std.specs.Prelude.{None, Some}
 
 abbrev taken_by : Monitor → ℕ
 taken_by m = m.window.taken
@@ -31,12 +30,12 @@ one_value w x =
     (λ e. omega arith) (λ e r. omega arith) (λ e r i. omega arith) (λ e r i. omega arith)
 
 one_seen : (m : Monitor) (d : Nearest) (t : Float) → taken_by (observe_of m d t) ≤ taken_by m + 1
-one_seen m Nothing t = omega arith
-one_seen m (Distance d2) t = one_value m.window _
+one_seen m None t = omega arith
+one_seen m (Some d2) t = one_value m.window _
 
 -- after n accepted inserts, of a stream with this monitor and these nearest distances
 abbrev pub Early : (n : ℕ) → Monitor → (List Float → Nearest) → Type 0
-Early n m nearest = (taken_by m < n) ⊎ ((taken_by m ≡ 0) × ((x : List Float) → nearest x ≡ Nothing))
+Early n m nearest = (taken_by m < n) ⊎ ((taken_by m ≡ 0) × ((x : List Float) → nearest x ≡ None))
 
 module _ {S P H : Type 0} (k : Kind S P H) (place : State P H → List Float → Bool) where
   one_taken : (n : ℕ) (s : State P H) (x : List Float) → Early n s.drift (k.nearest_for s) → taken_by (taken_of k s x).drift < n + 1
@@ -48,13 +47,13 @@ module _ {S P H : Type 0} (k : Kind S P H) (place : State P H → List Float →
       seen_more : taken_by s.drift < n → taken_by (taken_of k s x).drift < n + 1
       seen_more f = omega (arith, ap taken_by e, one_seen s.drift (k.nearest_for s x) s.t)
 
-      unseen : (taken_by s.drift ≡ 0) × ((y : List Float) → k.nearest_for s y ≡ Nothing) → taken_by (taken_of k s x).drift < n + 1
+      unseen : (taken_by s.drift ≡ 0) × ((y : List Float) → k.nearest_for s y ≡ None) → taken_by (taken_of k s x).drift < n + 1
       unseen f =
           let q : taken_by (taken_of k s x).drift ≡ taken_by s.drift = ap taken_by (e ∙ ap (λ (d : Nearest). observe_of s.drift d s.t) (f.1 x)) in
           omega (arith, f.0)
 
   -- of a stream that has nothing near where it is fresh
-  module _ (none : (p : S) (x : List Float) → k.nearest_for (fresh k p) x ≡ Nothing) (p : S) (xs : List (List Float)) where
+  module _ (none : (p : S) (x : List Float) → k.nearest_for (fresh k p) x ≡ None) (p : S) (xs : List (List Float)) where
     early_told : Early (accepted_in (told k place p xs)) (after k place p xs).drift (k.nearest_for (after k place p xs))
     early_told =
         always k place (λ (n : ℕ) (s : State P H). Early n s.drift (k.nearest_for s)) (λ n s x c e h. inl (one_taken n s x h)) p (inr (refl, none p)) xs

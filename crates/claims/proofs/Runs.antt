@@ -6,12 +6,8 @@ use mathlib.Core.List.{List, [], ◌∷◌, ◌++◌}
 use native.Mathlib.Omega.{arith}
 use lib.Ieee.{Float}
 use Rattle.float.specs.Rounded.{whole}
-use Rattle.drift.specs.declared.Nearest.{Nearest}
-use Rattle.drift.specs.declared.Nearest.TheVariants.{Nothing, Distance}
-use Rattle.drift.specs.declared.LastAlarm.{LastAlarm}
-use Rattle.drift.specs.declared.LastAlarm.TheVariants.{Never, At}
 use Rattle.adwin.specs.Window.{update_of}
-use Rattle.drift.specs.Monitor.{Monitor, new_of, heard, observe_of}
+use Rattle.drift.specs.Monitor.{Monitor, new_of, heard, observe_of, LastAlarm, Nearest}
 use Rattle.drift.specs.History.{Seen, watch_of, Heard}
 use Rattle.drift.specs.Laws.History.{heard_from_history}
 use Rattle.model.specs.declared.answers.Opening.{Opening}
@@ -25,6 +21,7 @@ use Rattle.claims.specs.Clock.{Counts}
 use Rattle.claims.specs.History.{seen_if, seen_from, Rang}
 use Rattle.claims.specs.Whole.{Opens, after, told, seen}
 use Rattle.claims.proofs.Clocks.{one_tick, starts, dated, dated_later}
+use Rattle.std.specs.Prelude.{None, Some}
 
 -- a list of inserts, then another
 pub run_append :
@@ -40,19 +37,19 @@ uncounted a h = ap (λ (b : Bool). cond b 1 0) h
 
 -- an alarm stays, or rings at the clock
 rang_later : (n : ℕ) (a : LastAlarm) → Rang n a → Rang (n + 1) a
-rang_later n Never r = tt
-rang_later n (At t) r = dated_later n t r
+rang_later n None r = tt
+rang_later n (Some t) r = dated_later n t r
 
 rang_heard : (n : ℕ) (m : Monitor) (x t : Float) → Counts n t → Rang n m.last_alarm → Rang (n + 1) (heard m (update_of m.window x) t).last_alarm
 rang_heard n m x t c r = go (update_of m.window x).alarm
   where
-    go : (b : Bool) → Rang (n + 1) (cond b (At t) m.last_alarm)
+    go : (b : Bool) → Rang (n + 1) (cond b (Some t) m.last_alarm)
     go true = dated n t c
     go false = rang_later n m.last_alarm r
 
 rang_seen : (n : ℕ) (m : Monitor) (d : Nearest) (t : Float) → Counts n t → Rang n m.last_alarm → Rang (n + 1) (observe_of m d t).last_alarm
-rang_seen n m Nothing t c r = rang_later n m.last_alarm r
-rang_seen n m (Distance d2) t c r = rang_heard n m _ t c r
+rang_seen n m None t c r = rang_later n m.last_alarm r
+rang_seen n m (Some d2) t c r = rang_heard n m _ t c r
 
 -- by any question whether there is a place for a point
 module _ {S P H : Type 0} (k : Kind S P H) (place : State P H → List Float → Bool) where

@@ -6,7 +6,6 @@ use mathlib.Core.List.{List}
 use native.Mathlib.Omega.{arith}
 use lib.Ieee.{Float}
 use lib.ListN.{length}
-use Rattle.drift.specs.declared.Nearest.TheVariants.{Nothing}
 use Rattle.model.specs.Limits.{micros_most}
 use Rattle.model.specs.Periods.{Period}
 use Rattle.model.specs.Stream.{State, Kind, fresh}
@@ -32,6 +31,7 @@ use Rattle.claims.proofs.DenFresh as den-fresh
 use Rattle.claims.proofs.DenFigures as den-figures
 use Rattle.claims.proofs.DenFinds as den-finds
 use Rattle.claims.proofs.DenLabels.{groups_told}
+use Rattle.std.specs.Prelude.{None}
 
 -- ---- of either stream
 module _ {S P H : Type 0} (k : Kind S P H) (place : State P H → List Float → Bool) where
@@ -40,7 +40,7 @@ module _ {S P H : Type 0} (k : Kind S P H) (place : State P H → List Float →
 
   -- which has nothing near where it is fresh, and whose period is whole
   one_run :
-      ((p : S) (x : List Float) → k.nearest_for (fresh k p) x ≡ Nothing) →
+      ((p : S) (x : List Float) → k.nearest_for (fresh k p) x ≡ None) →
       {b : ℕ} →
       b ≤ 2 ^ 53 →
       (p : S) →

@@ -1,15 +1,13 @@
 -- What a stream's drift monitor observes in a run, and when it rang, of any stream. Definitions only.
-use Rattle.std.specs.Prelude.{ℕ, ◌+◌, cond, List, [], ◌∷◌, Float}
+use Rattle.std.specs.Prelude.{ℕ, ◌+◌, cond, List, [], ◌∷◌, Float, None, Some}
 use Rattle.float.specs.Rounded.{whole}
-use Rattle.drift.specs.declared.Nearest.{Nearest}
-use Rattle.drift.specs.declared.LastAlarm.{LastAlarm}
-use Rattle.drift.specs.declared.LastAlarm.TheVariants.{Never, At}
 use Rattle.drift.specs.History.{Seen}
 use Rattle.model.specs.declared.answers.Insertion.{Insertion}
 use Rattle.model.specs.Answers.{is_done}
 use Rattle.model.specs.Outcome.{Outcome}
 use Rattle.model.specs.Run.{one_if_done}
 use Rattle.claims.specs.Clock.{Dated}
+use Rattle.drift.specs.Monitor.{LastAlarm, Nearest}
 
 -- a refused insert is not observed
 abbrev pub seen_if : Insertion → Seen → List Seen → List Seen
@@ -25,5 +23,5 @@ module _ {S : Type 0} (insert : S → List Float → Outcome S) (nearest : S →
 
 -- "the last alarm is either absent or the tick at which it rang": that of one of n accepted inserts
 abbrev pub Rang : (n : ℕ) → LastAlarm → Type 0
-Rang n Never = Unit {0}
-Rang n (At t) = Dated n t
+Rang n None = Unit {0}
+Rang n (Some t) = Dated n t

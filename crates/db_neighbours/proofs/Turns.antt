@@ -6,18 +6,18 @@ use lib.Seq.{append_snoc}
 use Rattle.float.specs.Order.{smaller}
 use Rattle.lists.specs.Laws.Rest.{rest_start, rest_step, rest_end, cut_take}
 use Rattle.lists.specs.Rest.{rest}
-use Rattle.drift.specs.declared.Nearest.TheVariants.{Nothing, Distance}
 use Rattle.model.specs.DbInsert.{least_of}
 use Rattle.lists.specs.Retain.{retain}
 use Rattle.model.specs.Limits.{micros_most}
+use Rattle.std.specs.Prelude.{None, Some}
 
 -- ---- the least distance
 module _ (n k : ℕ) (ds : List Float) (e : k ≡ min n micros_most) (l : length ds ≡ micros_most) where
-  pub least_none : k ≡ 0 → least_of (take n ds) ≡ Nothing
+  pub least_none : k ≡ 0 → least_of (take n ds) ≡ None
   unfolding least_of
   least_none h = rw (← cut_take k n micros_most ds e l, h)
 
-  pub least_start : 0 < k → Distance (foldl smaller (get_or ds 0 nan) (rest k 1 ds)) ≡ least_of (take n ds)
+  pub least_start : 0 < k → Some (foldl smaller (get_or ds 0 nan) (rest k 1 ds)) ≡ least_of (take n ds)
   unfolding least_of
   least_start h =
       let b : k ≤ length ds = omega arith in

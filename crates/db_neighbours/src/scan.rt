@@ -5,7 +5,6 @@ ghost use Rattle.db_neighbours.specs.Placing.{has_place_by};
 ghost use Rattle.db_neighbours.specs.Scanned.{scan_told, scan_of};
 
 use crate::nearest::least;
-use drift::Nearest;
 use feature::{MAX_DIM, sq_euclidean};
 use model::{DbMicro, MICROS, MicroId};
 
@@ -13,7 +12,7 @@ use model::{DbMicro, MICROS, MicroId};
 #[derive(Clone, Copy)]
 pub struct Scan {
     pub distances: [f64; MICROS],
-    pub nearest: Nearest,
+    pub nearest: Option<f64>,
     pub ids: [MicroId; MICROS],
     pub count: usize,
 }

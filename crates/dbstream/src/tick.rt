@@ -4,13 +4,12 @@ ghost use Rattle.model.specs.Dbstream.{tick_of};
 ghost use Rattle.dbstream.specs.View.{view};
 
 use crate::stream::DbStream;
-use drift::Nearest;
 use model::Clock;
 
 impl DbStream {
     // The drift monitor, then t grows by 1, then, where t is a multiple of t_gap, the cleanup.
     // The usual way makes the stream anew from its fields: a store into `self` would copy it once more.
-    pub fn tick(self, near: Nearest) -> Self
+    pub fn tick(self, near: Option<f64>) -> Self
         ensures { view result ≡ tick_of (view self) near }
     {
         let drift = self.drift;

@@ -9,7 +9,6 @@ use lib.ListN.{length, take}
 use lib.Seq.{length-take-le}
 use borrow.Author.Tests.{lt-ltb, le-ltb}
 use Rattle.feature.specs.Feature.{max_dim}
-use Rattle.drift.specs.declared.Nearest.{Nearest}
 use Rattle.model.specs.declared.micro.DenMicro.{DenMicro}
 use Rattle.model.specs.Limits.{micros_most}
 use Rattle.model.specs.DenState.{Params, Holdings}
@@ -24,6 +23,7 @@ use Rattle.den_placement.specs.declared.choice.Placement.{Placement}
 use Rattle.den_placement.specs.Pools.{potential_held, outliers_held, pools_of}
 use Rattle.den_placement.specs.Laws.Pools.{held_length}
 use Rattle.den_placement.specs.Placing.{grown_to, else_by, placement_by, has_room, placement_of, placement_told}
+use Rattle.drift.specs.Monitor.{Nearest}
 
 module _ (p : Params) (t : Float) (point : List Float) (potential : List DenMicro) (potential_count : ℕ) (outliers : List DenMicro) (outlier_count : ℕ) where
   abbrev d : ℕ

@@ -2,7 +2,6 @@
 use Rattle.std.specs.Prelude.{ℕ, ◌+◌, ◌<◌, Bool, true, false, cond, List, [], ◌∷◌, ◌++◌, ltb, Float, length, set}
 use Rattle.std.specs.Float.Ieee.{le}
 use Rattle.lists.specs.Retain.{without}
-use Rattle.drift.specs.declared.Nearest.{Nearest}
 use Rattle.model.specs.declared.micro.DenMicro.{DenMicro}
 use Rattle.model.specs.Limits.{micros_most}
 use Rattle.model.specs.DenState.{Params, Holdings, pooled}
@@ -13,6 +12,7 @@ use Rattle.den_pool.specs.Tried.{tried_of}
 use Rattle.den_placement.specs.declared.choice.Target.{Target}
 use Rattle.den_placement.specs.declared.choice.Target.TheVariants.{Potential, Promotion, Outlier, Newborn, Nowhere}
 use Rattle.den_placement.specs.declared.choice.Placement.{Placement}
+use Rattle.drift.specs.Monitor.{Nearest}
 
 -- ---- the placement of a point
 -- "and moves to the end of the potential list if w ≥ bm"

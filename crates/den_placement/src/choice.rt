@@ -6,7 +6,6 @@ ghost use Rattle.den_placement.specs.Pools.{pools_of};
 ghost use Rattle.den_placement.specs.Placing.{takes, grown_to, placement_of, placement_told};
 
 use crate::counts::{outliers_held, potential_held};
-use drift::Nearest;
 use feature::MAX_DIM;
 use model::{DenMicro, DenParams, MICROS};
 
@@ -44,11 +43,11 @@ pub struct Placement {
     // The micro-cluster with the point.
     pub micro: DenMicro,
     // The drift distance.
-    pub near: Nearest,
+    pub near: Option<f64>,
 }
 
 impl Placement {
-    fn new(target: Target, place: usize, micro: DenMicro, near: Nearest) -> Self
+    fn new(target: Target, place: usize, micro: DenMicro, near: Option<f64>) -> Self
         ensures { result ≡ record { target = target; place = place; micro = micro; near = near } }
     {
         Placement {
@@ -61,13 +60,13 @@ impl Placement {
 }
 
 // The drift distance of a point that no potential one took.
-fn smaller(potential: Nearest, outlier: Nearest) -> Nearest
+fn smaller(potential: Option<f64>, outlier: Option<f64>) -> Option<f64>
     ensures { result ≡ smaller_of potential outlier }
 {
-    let Nearest::Distance(a) = potential else {
+    let Some(a) = potential else {
         return outlier;
     };
-    let Nearest::Distance(b) = outlier else {
+    let Some(b) = outlier else {
         return potential;
     };
     if a < b {

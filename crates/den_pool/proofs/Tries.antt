@@ -9,7 +9,6 @@ use lib.Ieee.{Float}
 use lib.ListN.{length, take, get_or, length-take, length-map, get_or-map}
 use lib.Seq.{get_or-take, length-take-le}
 use Rattle.feature.specs.Feature.{max_dim}
-use Rattle.drift.specs.declared.Nearest.TheVariants as nearest
 use Rattle.model.specs.declared.micro.DenMicro.{DenMicro}
 use Rattle.model.specs.Body.{distance_to}
 use Rattle.model.specs.DenState.{Params}
@@ -21,6 +20,7 @@ use Rattle.readout.specs.Laws.Nearest.{nearest_measured, found_at, found_nothing
 use Rattle.den_pool.specs.Held.{micro_in, seen, distance_of}
 use Rattle.den_pool.specs.Tried.{tried_by, tried_of, trial_told}
 use Rattle.den_pool.specs.Laws.Tried.{newborn_in, absorbs_in}
+use Rattle.std.specs.Prelude.{None, Some}
 
 -- what the search among the distances measured finds; dim is the code's cut
 module _ (p : Params) (low : p.settings.dim ≤ max_dim) (dim : ℕ) (c : dim ≡ p.settings.dim) (point : List Float) (size : length point ≡ max_dim)
@@ -45,10 +45,10 @@ module _ (p : Params) (low : p.settings.dim ≤ max_dim) (dim : ℕ) (c : dim �
       (measured ∙ ap (λ (k : ℕ). map (distance_of k (take k point)) (take n pool)) c ∙ sym (map-map distance (micro_in p.settings.dim) (take n pool)))
 
   pub tried_none :
-      (t : Float) (m : DenMicro) → m ≡ newborn max_dim t (take dim point) → found ≡ Nothing →
-      trial_told p.settings.dim (record { near = nearest.Nothing; stands = false; place = 0; micro = m }) ≡ tried_of p t x l
+      (t : Float) (m : DenMicro) → m ≡ newborn max_dim t (take dim point) → found ≡ None →
+      trial_told p.settings.dim (record { near = None; stands = false; place = 0; micro = m }) ≡ tried_of p t x l
   tried_none t m w e =
-      ap (λ (k : DenMicro). record { near = nearest.Nothing; stands = false; place = 0; micro = k })
+      ap (λ (k : DenMicro). record { near = None; stands = false; place = 0; micro = k })
       (newborn_in p.settings.dim t x m x_size low (w ∙ ap (λ (k : ℕ). newborn max_dim t (take k point)) c))
       ∙ ap (tried_by p t x) (sym (found_nothing distance l (sym found_is ∙ e)))
 
@@ -68,10 +68,10 @@ module _ (p : Params) (low : p.settings.dim ≤ max_dim) (dim : ℕ) (c : dim �
 
     pub tried_some :
         (t : Float) (z copy : DenMicro) (st : Bool) → copy ≡ absorbs p.settings.lambda t (take dim point) (get_or pool place z) → st ≡ stands p.eps2 copy →
-        trial_told p.settings.dim (record { near = nearest.Distance dist; stands = st; place = place; micro = copy }) ≡ tried_of p t x l
+        trial_told p.settings.dim (record { near = Some dist; stands = st; place = place; micro = copy }) ≡ tried_of p t x l
     tried_some t z copy st w s =
-        ap (λ (b : Bool). record { near = nearest.Distance dist; stands = b; place = place; micro = micro_in p.settings.dim copy }) s
-        ∙ ap (λ (k : DenMicro). record { near = nearest.Distance dist; stands = stands p.eps2 k; place = place; micro = k })
+        ap (λ (b : Bool). record { near = Some dist; stands = b; place = place; micro = micro_in p.settings.dim copy }) s
+        ∙ ap (λ (k : DenMicro). record { near = Some dist; stands = stands p.eps2 k; place = place; micro = k })
         (ap (micro_in p.settings.dim) (w ∙ ap (λ (k : ℕ). absorbs p.settings.lambda t (take k point) (get_or pool place z)) c)
         ∙ absorbs_in p.settings.dim p.settings.lambda t x (get_or pool place z) x_size)
         ∙ ap (tried_by p t x) (sym (found_some z))

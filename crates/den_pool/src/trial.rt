@@ -4,7 +4,6 @@ ghost use Rattle.den_pool.specs.Held.{dim_of, settled_of, seen};
 ghost use Rattle.den_pool.specs.Tried.{tried_of, trial_told};
 
 use crate::micro::{absorbed, newborn, stands};
-use drift::Nearest;
 use feature::MAX_DIM;
 use model::{DenMicro, DenParams, MICROS};
 use readout::Found;
@@ -12,7 +11,7 @@ use readout::Found;
 #[derive(Clone, Copy)]
 pub struct Trial {
     // The pool's nearest distance, if it has one.
-    pub near: Nearest,
+    pub near: Option<f64>,
     // Whether the nearest's copy, which absorbed the point, stands; and its place, and the copy.
     pub stands: bool,
     pub place: usize,
@@ -44,7 +43,7 @@ pub fn try_merge(
     let found = readout::nearest(ds, n);
     let Found::At { place, dist } = found else {
         return Trial {
-            near: Nearest::Nothing,
+            near: None,
             stands: false,
             place: 0,
             micro: newborn(t, x, dim),
@@ -53,7 +52,7 @@ pub fn try_merge(
     let m = pool[place];
     let micro = absorbed(m, params.settings.lambda, t, x, dim);
     Trial {
-        near: Nearest::Distance(dist),
+        near: Some(dist),
         stands: stands(micro, params.eps2),
         place,
         micro,

@@ -4,13 +4,12 @@ ghost use Rattle.model.specs.Denstream.{tick_of};
 ghost use Rattle.denstream.specs.View.{view};
 
 use crate::stream::DenStream;
-use drift::Nearest;
 use model::Clock;
 
 impl DenStream {
     // The drift monitor, then t grows by 1, then, where t is a multiple of tp, the pruning.
     // The usual way makes the stream anew from its fields: a store into `self` would copy it once more.
-    pub fn tick(self, near: Nearest) -> Self
+    pub fn tick(self, near: Option<f64>) -> Self
         ensures { view result ≡ tick_of (view self) near }
     {
         let drift = self.drift;

@@ -1,30 +1,16 @@
 // The drift monitor of a stream: a window over the distances from the points to the nearest micro-cluster.
 #![tactic(auto)]
 
-ghost use Rattle.std.specs.Prelude.{◌≡◌};
+ghost use Rattle.std.specs.Prelude.{◌≡◌, None};
 ghost use Rattle.drift.specs.Monitor.{new_of, observe_of, report_of, view};
 
 use adwin::Adwin;
 
-// The squared distance to the nearest micro-cluster, where there is one.
-#[derive(Clone, Copy)]
-pub enum Nearest {
-    Nothing,
-    Distance(f64),
-}
-
-// The tick at which the alarm last rang.
-#[derive(Clone, Copy)]
-pub enum LastAlarm {
-    Never,
-    At(f64),
-}
-
-// What the monitor reports: the alarms rung, the tick of the last, and the window's mean and width.
+// What the monitor reports: the alarms rung, the tick of the last where there is one, and the window's mean and width.
 #[derive(Clone, Copy)]
 pub struct DriftReport {
     pub alarms: u64,
-    pub last_alarm: LastAlarm,
+    pub last_alarm: Option<f64>,
     // The window's mean: distances in radii.
     pub distance: f64,
     pub window: usize,
@@ -36,7 +22,7 @@ pub struct DriftMonitor {
     pub adwin: Adwin,
     pub radius: f64,
     pub alarms: u64,
-    pub last_alarm: LastAlarm,
+    pub last_alarm: Option<f64>,
 }
 
 impl DriftMonitor {
@@ -51,16 +37,16 @@ impl DriftMonitor {
             adwin: Adwin::new(DriftMonitor::DELTA),
             radius,
             alarms: 0,
-            last_alarm: LastAlarm::Never,
+            last_alarm: None,
         }
     }
 
     // The monitor after the point at tick t; without a nearest distance, as it came.
-    pub fn observe(self, nearest: Nearest, t: f64) -> Self
+    pub fn observe(self, nearest: Option<f64>, t: f64) -> Self
         ensures result_value { view result ≡ observe_of (view self) nearest t }
-        ensures untouched { nearest ≡ Nearest.Nothing → result ≡ self }
+        ensures untouched { nearest ≡ None → result ≡ self }
     {
-        let Nearest::Distance(d2) = nearest else {
+        let Some(d2) = nearest else {
             return self;
         };
         let adwin = self.adwin;
@@ -72,7 +58,7 @@ impl DriftMonitor {
                 adwin: window,
                 radius: self.radius,
                 alarms: std::num::wrapping_add_u64(self.alarms, 1),
-                last_alarm: LastAlarm::At(t),
+                last_alarm: Some(t),
             };
         }
         let last_alarm = self.last_alarm;

@@ -1,12 +1,10 @@
 -- Document 01, DBSTREAM: what a point and a cleanup do to what is held. Definitions only.
-use Rattle.std.specs.Prelude.{ℕ, ◌+◌, ◌%◌, ◌^◌, Bool, cond, not, ◌&&◌, ◌||◌, List, [], ◌∷◌, ◌++◌, map, length, ◌==◌, nat_eq, nat_lt, Float}
+use Rattle.std.specs.Prelude.{ℕ, ◌+◌, ◌%◌, ◌^◌, Bool, cond, not, ◌&&◌, ◌||◌, List, [], ◌∷◌, ◌++◌, map, length, ◌==◌, nat_eq, nat_lt, Float, None, Some}
 use mathlib.Core.List.{foldl}
 use Rattle.std.specs.Float.Ieee.{lt, le}
 use Rattle.float.specs.Rounded.{◌⊕◌, ◌⊗◌, nought, one}
 use Rattle.float.specs.Order.{smaller}
 use Rattle.lists.specs.Retain.{retain}
-use Rattle.drift.specs.declared.Nearest.{Nearest}
-use Rattle.drift.specs.declared.Nearest.TheVariants.{Nothing, Distance}
 use Rattle.model.specs.declared.micro.MicroId.{MicroId}
 use Rattle.model.specs.declared.micro.DbMicro.{DbMicro}
 use Rattle.model.specs.declared.link.Link.{Link}
@@ -15,6 +13,7 @@ use Rattle.model.specs.Limits.{links_most}
 use Rattle.model.specs.Fading.{faded_to}
 use Rattle.model.specs.Body.{birth, absorbing, faded_weight, distance_to}
 use Rattle.model.specs.DbState.{Params, Holdings, State}
+use Rattle.drift.specs.Monitor.{Nearest}
 
 -- a link, faded to the clock t
 abbrev pub faded_link : (lambda t : Float) → Link → Float
@@ -33,8 +32,8 @@ is_absorbed s x = any (is_neighbour s.params.settings.r x) s.held.micros
 
 -- "DBSTREAM's nearest is the minimum, a NaN losing to a number"
 unfoldable pub least_of : List Float → Nearest
-least_of [] = Nothing
-least_of (d ∷ rest) = Distance (foldl smaller d rest)
+least_of [] = None
+least_of (d ∷ rest) = Some (foldl smaller d rest)
 
 abbrev pub distances_of : State → List Float → List Float
 distances_of s x = map (λ (m : DbMicro). distance_to x m.body) s.held.micros

@@ -1,7 +1,6 @@
 -- Document 01: DBSTREAM, a kind of stream; its calls. Definitions only.
 use Rattle.std.specs.Prelude.{ℕ, Bool, List, [], map, length, ℤ, Float}
 use Rattle.float.specs.Rounded.{◌⊗◌}
-use Rattle.drift.specs.declared.Nearest.{Nearest}
 use Rattle.model.specs.declared.micro.DbMicro.{DbMicro}
 use Rattle.model.specs.declared.answers.Opening.{Opening}
 use Rattle.model.specs.Answers.{Said}
@@ -11,6 +10,7 @@ use Rattle.model.specs.Stream as stream
 use Rattle.model.specs.DbState.{Settings, Params, Holdings, State, params_of, zeros, questions}
 use Rattle.model.specs.DbInsert.{is_absorbed, placed, nearest_for, cleanup}
 use Rattle.model.specs.DbCluster.{strong_ones, joins_of, labels_of}
+use Rattle.drift.specs.Monitor.{Nearest}
 
 abbrev pub dbstream : stream.Kind Settings Params Holdings
 dbstream =

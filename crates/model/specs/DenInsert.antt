@@ -1,16 +1,15 @@
 -- Document 01, DenStream: what a point and a pruning do to the pools. Definitions only.
-use Rattle.std.specs.Prelude.{ℕ, Bool, true, false, cond, ◌&&◌, ◌||◌, List, [], ◌∷◌, ◌++◌, slice_set, Float}
+use Rattle.std.specs.Prelude.{ℕ, Bool, true, false, cond, ◌&&◌, ◌||◌, List, [], ◌∷◌, ◌++◌, slice_set, Float, None, Some}
 use Rattle.std.proofs.Math.Option.{Option, none, some}
 use Rattle.std.specs.Float.Ieee.{lt, le, neg}
 use Rattle.float.specs.Rounded.{◌⊕◌, ◌⊖◌, ◌⊗◌, ◌⊘◌, nought, one}
 use Rattle.float.specs.TwoTo.{two_to}
 use Rattle.lists.specs.Retain.{retain, without}
-use Rattle.drift.specs.declared.Nearest.{Nearest}
-use Rattle.drift.specs.declared.Nearest.TheVariants.{Nothing, Distance}
 use Rattle.model.specs.declared.micro.DenMicro.{DenMicro}
 use Rattle.model.specs.Body.{birth, absorbing, faded_weight, distance_to}
 use Rattle.model.specs.Nearest.{Near, nearest_of}
 use Rattle.model.specs.DenState.{Params, Holdings, pooled, State}
+use Rattle.drift.specs.Monitor.{Nearest}
 
 -- ---- the trial of a pool's nearest
 -- "a copy faded to t absorbs the point"
@@ -65,14 +64,14 @@ is_absorbed s x = is_there (trial_in s x s.held.potential) || is_there (trial_in
 -- ---- the drift distance
 -- the nearest distance of a pool, if it has one
 abbrev pub distance_of : Option (Near DenMicro) → Nearest
-distance_of none = Nothing
-distance_of (some b) = Distance b.dist
+distance_of none = None
+distance_of (some b) = Some b.dist
 
 -- "the smaller of both (a potential one only if strictly smaller, or alone)"
 abbrev pub smaller_of : (potential outlier : Nearest) → Nearest
-smaller_of Nothing o = o
-smaller_of (Distance a) Nothing = Distance a
-smaller_of (Distance a) (Distance b) = Distance (cond (lt a b) a b)
+smaller_of None o = o
+smaller_of (Some a) None = Some a
+smaller_of (Some a) (Some b) = Some (cond (lt a b) a b)
 
 -- "DenStream takes the potential pool's if it merged there, else the smaller of both"
 unfoldable pub nearest_for : State → List Float → Nearest

@@ -1,6 +1,5 @@
 -- Document 01: DenStream, a kind of stream; its calls. Definitions only.
 use Rattle.std.specs.Prelude.{ℕ, ◌+◌, Bool, List, [], map, length, ℤ, Float}
-use Rattle.drift.specs.declared.Nearest.{Nearest}
 use Rattle.model.specs.declared.micro.DenMicro.{DenMicro}
 use Rattle.model.specs.declared.answers.Opening.{Opening}
 use Rattle.model.specs.Answers.{Said}
@@ -10,6 +9,7 @@ use Rattle.model.specs.Stream as stream
 use Rattle.model.specs.DenState.{Settings, Params, Holdings, pooled, State, params_of, zeros, questions}
 use Rattle.model.specs.DenInsert.{is_absorbed, placed, nearest_for, pruned}
 use Rattle.model.specs.DenCluster.{potential_ones, joins_of, labels_of}
+use Rattle.drift.specs.Monitor.{Nearest}
 
 abbrev pub denstream : stream.Kind Settings Params Holdings
 denstream =

@@ -3,8 +3,7 @@ use Rattle.std.specs.Prelude.{ℕ, Bool, cond, ◌||◌, List, [], length, ℤ, 
 use Rattle.float.specs.Rounded.{◌⊕◌, nought, one}
 use Rattle.lists.specs.Total.{total}
 use Rattle.union_find.specs.Steps.{find_steps}
-use Rattle.drift.specs.Monitor.{Monitor, new_of, observe_of}
-use Rattle.drift.specs.declared.Nearest.{Nearest}
+use Rattle.drift.specs.Monitor.{Monitor, new_of, observe_of, Nearest}
 use Rattle.model.specs.declared.body.Body.{Body}
 use Rattle.model.specs.declared.answers.Opening.{Opening}
 use Rattle.model.specs.declared.answers.Opening.TheVariants.{Open}

@@ -1,8 +1,7 @@
 -- Document 01, "Tick: drift monitor, then t grows by 1, then, if t is a multiple of t_gap, cleanup", of both streams. Definitions only.
 use Rattle.std.specs.Prelude.{Bool, Float}
 use Rattle.float.specs.Rounded.{◌⊕◌, one}
-use Rattle.drift.specs.Monitor.{Monitor, view, observe_of}
-use Rattle.drift.specs.declared.Nearest.{Nearest}
+use Rattle.drift.specs.Monitor.{Monitor, view, observe_of, Nearest}
 use Rattle.model.specs.declared.clock.Clock.{Clock}
 use Rattle.model.specs.declared.clock.Ticked.{Ticked}
 use Rattle.model.specs.Fading.{is_multiple}

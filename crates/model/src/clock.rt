@@ -4,7 +4,7 @@ ghost use Rattle.drift.specs.Monitor.{view};
 ghost use Rattle.model.specs.Fading.{is_multiple, ticks_of};
 ghost use Rattle.model.specs.Ticking.{tick_told, ticked_of};
 
-use drift::{DriftMonitor, Nearest};
+use drift::DriftMonitor;
 
 // The whole ticks of a time; 0 where it is not above 0 or not below 2 to the power 63.
 fn ticks(x: f64) -> u64
@@ -54,7 +54,7 @@ impl Clock {
     }
 
     // The drift monitor, then t grows by 1; pruning is due where t is a multiple of the period.
-    pub fn tick(self, monitor: DriftMonitor, near: Nearest) -> Ticked
+    pub fn tick(self, monitor: DriftMonitor, near: Option<f64>) -> Ticked
         ensures { tick_told result ≡ ticked_of self (view monitor) near }
     {
         let drift = monitor.observe(near, self.t);

@@ -1,7 +1,7 @@
 // The lines of the answers that both streams give.
 use crate::output::{Line, double, end, label, number, put, say, start};
 use crate::rows::labels;
-use drift::{DriftReport, LastAlarm};
+use drift::DriftReport;
 use model::{Connectivity, Insertion, MICROS, Opening, Prediction, ReadOut};
 
 // An opening or an insert that is accepted.
@@ -74,8 +74,8 @@ pub fn say_connectivity(answer: Connectivity) {
 }
 
 // The tick of the last alarm by its bits, or a dash.
-fn last_tick(line: Line, last: LastAlarm) -> Line {
-    let LastAlarm::At(t) = last else {
+fn last_tick(line: Line, last: Option<f64>) -> Line {
+    let Some(t) = last else {
         return put(line, b" -");
     };
     double(line, t)

@@ -2,7 +2,7 @@
 use crate::output::{Line, double, end, number, put, whole};
 use crate::rows::doubles;
 use adwin::{Adwin, Bucket, PLACES};
-use drift::{DriftMonitor, LastAlarm};
+use drift::DriftMonitor;
 use feature::Spherical;
 
 // Weight, sum of squared deviations, and the mean's coordinates.
@@ -38,8 +38,8 @@ fn window(line: Line, w: Adwin) -> Line {
 }
 
 // The tick of the last alarm in decimal, or a dash.
-fn last_tick(line: Line, last: LastAlarm) -> Line {
-    let LastAlarm::At(t) = last else {
+fn last_tick(line: Line, last: Option<f64>) -> Line {
+    let Some(t) = last else {
         return put(line, b" -");
     };
     whole(line, t)

@@ -1,7 +1,6 @@
 -- What is held after the micro-clusters and links of an insert and before its tick, by what the scan found. Definitions only.
 use mathlib.Core.List.{List, map, foldl}
 use Rattle.std.specs.Prelude.{Float, take}
-use Rattle.drift.specs.declared.Nearest.{Nearest}
 use Rattle.model.specs.declared.micro.MicroId.{MicroId}
 use Rattle.model.specs.declared.micro.DbMicro.{DbMicro}
 use Rattle.model.specs.declared.link.Link.{Link}
@@ -13,6 +12,7 @@ use Rattle.db_micro.specs.Held.{cut_to}
 use Rattle.db_neighbours.specs.Placing.{placed_among, next_after}
 use Rattle.dbstream.specs.declared.stream.DbStream.{DbStream}
 use Rattle.dbstream.specs.View.{view, dim_of}
+use Rattle.drift.specs.Monitor.{Nearest}
 
 abbrev pub holds : MicroId → List DbMicro → List Link → Holdings
 holds next ms ls = record { next = next.0; micros = ms; links = ls }

@@ -6,7 +6,6 @@ use Rattle.std.proofs.Math.Bool.{true, false, cond}
 use Rattle.std.proofs.Math.Option.{Option, none, some}
 use Rattle.std.specs.Float.Ieee.{le}
 use Rattle.lists.specs.Retain.{without}
-use Rattle.drift.specs.declared.Nearest.{Nearest}
 use Rattle.model.specs.declared.micro.DenMicro.{DenMicro}
 use Rattle.model.specs.Limits.{micros_most}
 use Rattle.model.specs.Nearest.{Near}
@@ -20,6 +19,7 @@ use Rattle.den_pool.specs.Laws.Tried.{taker_of, tried_trial, tried_near, tried_l
 use Rattle.den_placement.specs.declared.choice.Target.TheVariants.{Potential, Promotion, Outlier, Newborn, Nowhere}
 use Rattle.den_placement.specs.declared.choice.Placement.{Placement}
 use Rattle.den_placement.specs.Placing.{takes, else_by, placement_by, has_room, placement_of, pooled_at, Ready}
+use Rattle.drift.specs.Monitor.{Nearest}
 
 -- the placement r of the point x in the stream s
 pub record Placing (s : State) (x : List Float) (r : Placement) : Type 0 where

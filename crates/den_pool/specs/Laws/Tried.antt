@@ -1,11 +1,9 @@
 -- A trial is that of document 01's definitions, and finds a place of the pool. Assumes nothing.
-use Rattle.std.specs.Prelude.{ℕ, ◌≤◌, ◌<◌, ◌≡◌, refl, true, cond, List, Float, length}
+use Rattle.std.specs.Prelude.{ℕ, ◌≤◌, ◌<◌, ◌≡◌, refl, true, cond, List, Float, length, None, Some}
 use Rattle.std.proofs.Common.{arith, ap, ◌∙◌}
 use Rattle.std.proofs.Math.Option.{Option, none, some}
 use Rattle.float.specs.Rounded.{nought}
 use Rattle.feature.specs.Feature.{max_dim}
-use Rattle.drift.specs.declared.Nearest.{Nearest}
-use Rattle.drift.specs.declared.Nearest.TheVariants.{Nothing, Distance}
 use Rattle.model.specs.declared.micro.DenMicro.{DenMicro}
 use Rattle.model.specs.Nearest.{Near}
 use Rattle.model.specs.declared.body.Body.{Body}
@@ -18,10 +16,11 @@ use Rattle.readout.specs.Laws.Nearest.{found_at}
 use Rattle.den_pool.specs.declared.trial.Trial.{Trial}
 use Rattle.den_pool.specs.Held.{micro_in}
 use Rattle.den_pool.specs.Tried.{tried_by, tried_of}
+use Rattle.drift.specs.Monitor.{Nearest}
 
 abbrev squared : Nearest → Float
-squared Nothing = nought
-squared (Distance d) = d
+squared None = nought
+squared (Some d) = d
 
 -- the one that takes the point
 abbrev pub taker_of : Trial → Near DenMicro

@@ -1,5 +1,5 @@
 -- What holds of the monitor, from the list of its observations.
-use Rattle.std.specs.Prelude.{◌≡◌, ℕ, ◌+◌, ◌%◌, ◌^◌, ◌<◌, ◌≤◌, Bool, true, false, cond, List, [], ◌∷◌, ◌++◌, length, refl, Float}
+use Rattle.std.specs.Prelude.{◌≡◌, ℕ, ◌+◌, ◌%◌, ◌^◌, ◌<◌, ◌≤◌, Bool, true, false, cond, List, [], ◌∷◌, ◌++◌, length, refl, Float, None, Some}
 use Rattle.std.proofs.Common.{ap, sym, ◌∙◌, subst, arith, mod-eq_of_lt}
 use Rattle.float.specs.Rounded.{◌⊘◌}
 use Rattle.sqrt.specs.Root.{sqrt_of}
@@ -9,26 +9,22 @@ use Rattle.adwin.specs.Window.{Window}
 use Rattle.adwin.specs.History.{run_of, Told}
 use Rattle.adwin.specs.Laws.Cases.{Takes, update_takes}
 use Rattle.adwin.proofs.Laws.History.{told_from_history}
-use Rattle.drift.specs.declared.Nearest.{Nearest}
-use Rattle.drift.specs.declared.Nearest.TheVariants.{Nothing, Distance}
-use Rattle.drift.specs.declared.LastAlarm.{LastAlarm}
-use Rattle.drift.specs.declared.LastAlarm.TheVariants.{At}
-use Rattle.drift.specs.Monitor.{Monitor, new_of, observe_of, heard, delta}
+use Rattle.drift.specs.Monitor.{Monitor, new_of, observe_of, heard, delta, LastAlarm, Nearest}
 use Rattle.drift.specs.History.{Heard, Seen, watch_of, given, values_seen, answer_to, rings_in, last_of}
 
 -- ---- one observation
 answer_takes : (w : Window) (radius : Float) (n : Nearest) → w.taken ≤ limit → Takes w (answer_to w radius n)
-answer_takes w radius Nothing h = record { more = omega arith; within = h }
-answer_takes w radius (Distance d2) h = update_takes w (sqrt_of d2 ⊘ radius) h
+answer_takes w radius None h = record { more = omega arith; within = h }
+answer_takes w radius (Some d2) h = update_takes w (sqrt_of d2 ⊘ radius) h
 
 observed : (m : Monitor) (n : Nearest) (t : Float) → observe_of m n t ≡ heard m (answer_to m.window m.radius n) t
-observed m Nothing t = refl
-observed m (Distance d2) t = refl
+observed m None t = refl
+observed m (Some d2) t = refl
 
 run_given : (w : Window) (radius : Float) (n : Nearest) (xs : List Float) → run_of (answer_to w radius n).window xs ≡ run_of w (given radius n ++ xs)
 unfolding run_of
-run_given w radius Nothing xs = refl
-run_given w radius (Distance d2) xs = refl
+run_given w radius None xs = refl
+run_given w radius (Some d2) xs = refl
 
 one_more : (b : Bool) (t : Float) (l : List Float) → length (cond b (t ∷ []) [] ++ l) ≡ cond b 1 0 + length l
 one_more true t l = omega arith
@@ -56,7 +52,7 @@ below_end : (k n : ℕ) (b : Bool) → k + (cond b 1 0 + n) < 2 ^ 64 → cond b 
 below_end k n true h = mod-eq_of_lt (omega arith)
 below_end k n false h = omega arith
 
-last_more : (a : LastAlarm) (b : Bool) (t : Float) (l : List Float) → last_of (cond b (At t) a) l ≡ last_of a (cond b (t ∷ []) [] ++ l)
+last_more : (a : LastAlarm) (b : Bool) (t : Float) (l : List Float) → last_of (cond b (Some t) a) l ≡ last_of a (cond b (t ∷ []) [] ++ l)
 last_more a true t l = refl
 last_more a false t l = refl
 

@@ -4,8 +4,7 @@ use Rattle.std.proofs.Math.Path.{refl, ap, ap₂, subst}
 use Rattle.std.proofs.Common.{sym, ◌∙◌}
 use Rattle.std.specs.Float.Ieee.{lt}
 use Rattle.float.specs.Rounded.{◌⊕◌, one}
-use Rattle.drift.specs.Monitor.{observe_of}
-use Rattle.drift.specs.declared.Nearest.{Nearest}
+use Rattle.drift.specs.Monitor.{observe_of, Nearest}
 use Rattle.model.specs.declared.answers.Insertion.{Insertion}
 use Rattle.model.specs.declared.answers.Insertion.TheVariants.{Done}
 use Rattle.model.specs.Limits.{clock_limit}

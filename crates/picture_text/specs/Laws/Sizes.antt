@@ -1,12 +1,10 @@
 -- The text of `picture` is never cut. Assumes nothing.
-use Rattle.std.specs.Prelude.{ℕ, ◌+◌, ◌%◌, ◌^◌, ◌≤◌, ◌<◌, min, List, [], ◌∷◌, eqb, negsuc, length, replicate, Float}
+use Rattle.std.specs.Prelude.{ℕ, ◌+◌, ◌%◌, ◌^◌, ◌≤◌, ◌<◌, min, List, [], ◌∷◌, eqb, negsuc, length, replicate, Float, None, Some}
 use Rattle.std.proofs.Common.{arith}
 use Rattle.float.specs.Rounded.{◌⊘◌}
 use Rattle.sqrt.specs.Root.{sqrt_of}
 use Rattle.adwin.specs.Window.{update_of}
-use Rattle.drift.specs.declared.Nearest.{Nearest}
-use Rattle.drift.specs.declared.Nearest.TheVariants.{Nothing, Distance}
-use Rattle.drift.specs.Monitor.{Monitor, observe_of, report_of}
+use Rattle.drift.specs.Monitor.{Monitor, observe_of, report_of, Nearest}
 use Rattle.model.specs.declared.answers.Opening.{Opening}
 use Rattle.model.specs.declared.answers.Opening.TheVariants.{Open, Dim, Radius, Lambda, Share, Weight, BetaMu}
 use Rattle.model.specs.declared.answers.Insertion.{Insertion}
@@ -30,8 +28,8 @@ abbrev Counted : State → Type 0
 Counted s = s.drift.alarms < 2 ^ 64
 
 observed : (m : Monitor) (d : Nearest) (t : Float) → m.alarms < 2 ^ 64 → (observe_of m d t).alarms < 2 ^ 64
-observed m Nothing t h = h
-observed m (Distance d2) t h =
+observed m None t h = h
+observed m (Some d2) t h =
     let w : (m.alarms + 1) % 2 ^ 64 < 2 ^ 64 = omega arith in
     of_either (λ (n : ℕ). n < 2 ^ 64) (update_of m.window (sqrt_of d2 ⊘ m.radius)).alarm ((m.alarms + 1) % 2 ^ 64) m.alarms w h
 

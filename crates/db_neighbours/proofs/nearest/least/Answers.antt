@@ -5,9 +5,9 @@ use lib.Ieee.{Float, nan}
 use Rattle.float.specs.Order.{smaller}
 use Rattle.lists.specs.Rest.{rest}
 use Rattle.lists.specs.Laws.Loops.{fold_step, fold_end}
-use Rattle.drift.specs.declared.Nearest.TheVariants.{Distance}
 use Rattle.db_neighbours.proofs.Turns.{least_none, least_start}
 use Rattle.db_neighbours.proofs.nearest.least.Goals as goal
+use Rattle.std.specs.Prelude.{Some}
 
 pub returns-then-k-eq0 : goal.returns-then-k-eq0
 returns-then-k-eq0 c =
@@ -26,12 +26,12 @@ loop-i-preserved c =
     let ds = c.args.ds in (
       omega arith,
       omega arith,
-      ap (λ (b : Float). Distance (foldl smaller b (rest n (k.i + 1) ds))) c.min-best.ensures
-          ∙ ap Distance (sym (fold_step smaller n k.i ds k.best nan (omega arith) (omega arith))) ∙ k.invariant.2,
+      ap (λ (b : Float). Some (foldl smaller b (rest n (k.i + 1) ds))) c.min-best.ensures
+          ∙ ap Some (sym (fold_step smaller n k.i ds k.best nan (omega arith) (omega arith))) ∙ k.invariant.2,
     )
 
 pub returns : goal.returns
 returns c =
     let k = c.loop-i in
-    ap Distance (sym (fold_end smaller c.cut-k.result k.i c.args.ds k.best
+    ap Some (sym (fold_end smaller c.cut-k.result k.i c.args.ds k.best
     (omega arith))) ∙ k.invariant.2
