@@ -7,7 +7,6 @@ use lib.Ieee.{Float, binary64, neg, lt, eq, rem}
 use Rattle.float.specs.Rounded.{◌⊕◌, ◌⊖◌, ◌⊗◌, nought, one, whole, Exact}
 use Rattle.float.specs.TwoTo.{two_to}
 use Rattle.float.specs.Laws.Whole.{add_is, exactly}
-use Rattle.model.specs.declared.answers.Opening.TheVariants.{Open}
 use Rattle.model.specs.Limits.{clock_most}
 use Rattle.model.specs.Answers.{is_open}
 use Rattle.model.specs.Questions.{lambda_in_range}
@@ -23,27 +22,28 @@ use Rattle.model.specs.Dbstream.{dbstream}
 use Rattle.model.specs.DenState as den
 use Rattle.model.specs.Denstream.{denstream}
 use Rattle.claims.specs.Clock.{Counts, Dated}
+use Rattle.std.specs.Prelude.{Ok}
 
 -- an accepted opening answered yes to every question: of DBSTREAM, the third
-db_lambda : (p : db.Settings) → asked dbstream p ≡ Open → lambda_in_range p.lambda ≡ true
+db_lambda : (p : db.Settings) → asked dbstream p ≡ Ok tt → lambda_in_range p.lambda ≡ true
 db_lambda p e = (opens_yes dbstream p (refl, (refl, (refl, (refl, (refl, tt))))) (ap is_open e)).1.1.0
 
 -- of DenStream, the third and the last
-den_yes : (p : den.Settings) → asked denstream p ≡ Open → (lambda_in_range p.lambda ≡ true) × (lt one (bm_of p.beta p.mu) ≡ true)
+den_yes : (p : den.Settings) → asked denstream p ≡ Ok tt → (lambda_in_range p.lambda ≡ true) × (lt one (bm_of p.beta p.mu) ≡ true)
 den_yes p e =
     let r = opens_yes denstream p (refl, (refl, (refl, (refl, (refl, (refl, tt)))))) (ap is_open e) in
     (r.1.1.0, r.1.1.1.1.1.0)
 
 -- t_gap of an accepted DBSTREAM
-pub gap_whole : (p : db.Settings) → asked dbstream p ≡ Open → Period (2 ^ 32) (db.params_of p).t_gap
+pub gap_whole : (p : db.Settings) → asked dbstream p ≡ Ok tt → Period (2 ^ 32) (db.params_of p).t_gap
 gap_whole p e = t_gap_whole p.lambda (db_lambda p e)
 
 -- tp of an accepted DenStream
-pub prune_whole : (p : den.Settings) → asked denstream p ≡ Open → Period (2 ^ 38) (den.params_of p).tp
+pub prune_whole : (p : den.Settings) → asked denstream p ≡ Ok tt → Period (2 ^ 38) (den.params_of p).tp
 prune_whole p e = tp_whole p.lambda p.beta p.mu (den_yes p e).0 (den_yes p e).1
 
 -- and what outliers need divides by no 0
-pub divides : (p : den.Settings) → asked denstream p ≡ Open → eq (two_to (neg p.lambda ⊗ (den.params_of p).tp) ⊖ one) nought ≡ false
+pub divides : (p : den.Settings) → asked denstream p ≡ Ok tt → eq (two_to (neg p.lambda ⊗ (den.params_of p).tp) ⊖ one) nought ≡ false
 divides p e = divisor_some p.lambda p.beta p.mu (den_yes p e).0 (den_yes p e).1
 
 -- of either stream

@@ -10,9 +10,7 @@ use Rattle.adwin.specs.Window.{update_of}
 use Rattle.drift.specs.Monitor.{Monitor, new_of, heard, observe_of, LastAlarm, Nearest}
 use Rattle.drift.specs.History.{Seen, watch_of, Heard}
 use Rattle.drift.specs.Laws.History.{heard_from_history}
-use Rattle.model.specs.declared.answers.Opening.{Opening}
-use Rattle.model.specs.declared.answers.Insertion.{Insertion}
-use Rattle.model.specs.Answers.{is_done}
+use Rattle.model.specs.Answers.{is_done, Insertion, Opening}
 use Rattle.model.specs.Outcome.{Outcome, opened}
 use Rattle.model.specs.Run.{run_of, answers_of, one_if_done, accepted_in}
 use Rattle.model.specs.Stream.{State, Kind, taking, fresh, open_of, tick_of, taken_of, insert_by}

@@ -9,7 +9,6 @@ use Rattle.union_find.specs.Pairs.{Chain}
 use Rattle.model.specs.declared.micro.MicroId.{MicroId}
 use Rattle.model.specs.declared.micro.DbMicro.{DbMicro}
 use Rattle.model.specs.declared.link.Link.{Link}
-use Rattle.model.specs.declared.answers.Insertion.{Insertion}
 use Rattle.model.specs.Limits.{micros_most, links_most}
 use Rattle.model.specs.Run.{accepted_in}
 use Rattle.model.specs.Periods.{Period}
@@ -22,6 +21,7 @@ use Rattle.claims.specs.Clock.{Counts}
 use Rattle.claims.specs.Weighed.{Weighed, KeptBody}
 use Rattle.claims.specs.Finds.{FindsTold}
 use Rattle.claims.specs.Whole as whole
+use Rattle.model.specs.Answers.{Insertion}
 
 -- ---- labels
 -- "strong means faded weight ≥ min_weight"

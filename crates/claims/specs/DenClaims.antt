@@ -7,7 +7,6 @@ use Rattle.float.specs.TwoTo.{two_to}
 use Rattle.union_find.specs.Pairs.{Chain}
 use Rattle.labels.specs.Group.{Summed}
 use Rattle.model.specs.declared.micro.DenMicro.{DenMicro}
-use Rattle.model.specs.declared.answers.Insertion.{Insertion}
 use Rattle.model.specs.Limits.{micros_most, clock_most}
 use Rattle.model.specs.Run.{accepted_in}
 use Rattle.model.specs.Periods.{Period}
@@ -18,6 +17,7 @@ use Rattle.claims.specs.Clock.{Counts, Dated}
 use Rattle.claims.specs.Weighed.{KeptBody}
 use Rattle.claims.specs.Finds.{FindsTold}
 use Rattle.claims.specs.Whole as whole
+use Rattle.model.specs.Answers.{Insertion}
 
 -- ---- labels
 -- "A centre is a potential one's mean"

@@ -2,8 +2,7 @@
 use Rattle.std.specs.Prelude.{ℕ, ◌+◌, cond, List, [], ◌∷◌, Float, None, Some}
 use Rattle.float.specs.Rounded.{whole}
 use Rattle.drift.specs.History.{Seen}
-use Rattle.model.specs.declared.answers.Insertion.{Insertion}
-use Rattle.model.specs.Answers.{is_done}
+use Rattle.model.specs.Answers.{is_done, Insertion}
 use Rattle.model.specs.Outcome.{Outcome}
 use Rattle.model.specs.Run.{one_if_done}
 use Rattle.claims.specs.Clock.{Dated}

@@ -1,22 +1,20 @@
 -- Document 01, "A whole run", of a stream of any kind. Definitions and statements only; proofs/Theorem proves them of both streams.
-use Rattle.std.specs.Prelude.{◌≡◌, ◌≢◌, Bool, List, Float}
+use Rattle.std.specs.Prelude.{◌≡◌, ◌≢◌, Bool, List, Float, Ok}
 use Rattle.std.specs.Float.{binary64}
 use Rattle.std.specs.Float.Ieee.{eq, rem}
 use Rattle.float.specs.Rounded.{nought}
 use Rattle.adwin.specs.Window.{update_of}
 use Rattle.drift.specs.Monitor.{new_of}
 use Rattle.drift.specs.History.{Seen, watch_of, Heard}
-use Rattle.model.specs.declared.answers.Opening.TheVariants.{Open}
-use Rattle.model.specs.declared.answers.Insertion.{Insertion}
-use Rattle.model.specs.declared.answers.Insertion.TheVariants.{Done}
 use Rattle.model.specs.Fading.{is_multiple}
 use Rattle.model.specs.Run.{run_of, answers_of, accepted_in}
 use Rattle.model.specs.Stream.{State, Kind, asked, fresh, open_of, insert_by}
 use Rattle.claims.specs.History.{seen_from, Rang}
+use Rattle.model.specs.Answers.{Insertion}
 
 -- an opening with these settings is accepted
 abbrev pub Opens : {S P H : Type 0} → Kind S P H → S → Type 0
-Opens k p = asked k p ≡ Open
+Opens k p = asked k p ≡ Ok tt
 
 -- by any question whether there is a place for a point
 module _ {S P H : Type 0} (k : Kind S P H) (place : State P H → List Float → Bool) where
@@ -52,4 +50,4 @@ module _ {S P H : Type 0} (k : Kind S P H) (place : State P H → List Float →
     -- "Fresh means as an accepted opening gives it"
     pub opened : (p : S) → Opens k p → (open_of k p).stream ≡ fresh k p
     -- "a refused insert changes nothing"
-    pub refused : (s : State P H) (x : List Float) → (insert_by k place s x).answer ≢ Done → (insert_by k place s x).stream ≡ s
+    pub refused : (s : State P H) (x : List Float) → (insert_by k place s x).answer ≢ Ok tt → (insert_by k place s x).stream ≡ s

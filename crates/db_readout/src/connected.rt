@@ -5,7 +5,7 @@ ghost use Rattle.dbstream.specs.View.{view};
 ghost use Rattle.db_readout.specs.Connectivity.{are_live, weight_now, mean_now, density_over, connectivity_of};
 
 use dbstream::DbStream;
-use model::{Connectivity, DbMicro, LINKS, Link, MICROS, MicroId};
+use model::{DbMicro, LINKS, Link, MICROS, MicroId, NotLive};
 
 // Whether both creation numbers are held, and different.
 fn are_live(micros: [DbMicro; MICROS], n: usize, a: MicroId, b: MicroId) -> bool
@@ -83,7 +83,7 @@ fn density(
 }
 
 // The link of two live micro-clusters over the mean of their weights, link and weights as faded by now.
-pub fn connectivity(stream: DbStream, a: MicroId, b: MicroId) -> Connectivity
+pub fn connectivity(stream: DbStream, a: MicroId, b: MicroId) -> Result<f64, NotLive>
     ensures { connectivity_said result ≡ connectivity_of (view stream) a b }
 {
     let n = stream.count;
@@ -93,7 +93,7 @@ pub fn connectivity(stream: DbStream, a: MicroId, b: MicroId) -> Connectivity
         let t = stream.t;
         let mean = mean_weight(micros, n, a, b, lambda, t);
         let links = stream.links;
-        return Connectivity::Density(density(links, stream.link_count, a, b, mean, lambda, t));
+        return Ok(density(links, stream.link_count, a, b, mean, lambda, t));
     }
-    Connectivity::NotLive
+    Err(NotLive)
 }

@@ -12,10 +12,10 @@ ghost use Rattle.dbstream.specs.View.{view};
 
 pub use connected::connectivity;
 use dbstream::DbStream;
-use model::{Prediction, ReadOut};
+use model::{ShapeError, TooShort};
 
 // The labels of the last cluster, into a lent slice; none after an insert.
-pub fn labels(stream: DbStream, out: &mut [i64]) -> ReadOut
+pub fn labels(stream: DbStream, out: &mut [i64]) -> Result<(), TooShort>
     ensures { labels_told result out.new ≡ labels_read_of (view stream) out.old }
 {
     let labels = stream.labels;
@@ -31,7 +31,7 @@ pub fn n_clusters(stream: DbStream) -> usize
 }
 
 // The label of the nearest micro-cluster, if it is no farther than r.
-pub fn try_predict(stream: DbStream, x: &[f64]) -> Prediction
+pub fn try_predict(stream: DbStream, x: &[f64]) -> Result<i64, ShapeError>
     ensures { prediction_said result ≡ predict_of (view stream) x.now }
 {
     let settings = stream.params.settings;
@@ -55,7 +55,7 @@ pub fn micro_stats(
     centres: &mut [f64],
     weights: &mut [f64],
     radii: &mut [f64],
-) -> ReadOut
+) -> Result<(), TooShort>
     ensures { statistics_told result centres.new weights.new radii.new
         ≡ statistics_of (view stream) centres.old weights.old radii.old }
 {

@@ -17,10 +17,9 @@ use Rattle.lists.specs.Laws.Sizes.{retain_length}
 use Rattle.feature.specs.Feature.{max_dim}
 use Rattle.model.specs.declared.micro.MicroId.{MicroId}
 use Rattle.model.specs.declared.micro.DbMicro.{DbMicro}
-use Rattle.model.specs.declared.answers.Insertion.{Insertion}
 use Rattle.model.specs.Any.{any}
 use Rattle.model.specs.Limits.{micros_most}
-use Rattle.model.specs.Answers.{is_done}
+use Rattle.model.specs.Answers.{is_done, Insertion}
 use Rattle.model.specs.Questions.{insertion_asked}
 use Rattle.model.proofs.Laws.Stream.{inserted_by}
 use Rattle.model.specs.DbState.{Holdings, State}

@@ -3,8 +3,7 @@ use Prim.Native.Nat.{min}
 use mathlib.Core.Path.{◌≡◌, refl}
 use mathlib.Core.Bool.{Bool, cond}
 use Rattle.feature.specs.Feature.{max_dim}
-use Rattle.model.specs.declared.answers.Opening.{Opening}
-use Rattle.model.specs.Answers.{opening_number, is_open}
+use Rattle.model.specs.Answers.{opening_number, is_open, Opening}
 use Rattle.model.specs.Numbers.{db_opening_no}
 use Rattle.model.proofs.Laws.Numbers.{db_opening_said}
 use Rattle.model.specs.Laws.Open.{opened_as}

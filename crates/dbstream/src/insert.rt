@@ -11,12 +11,12 @@ use crate::stream::DbStream;
 use db_gains::Pass;
 use db_neighbours::Scan;
 use feature::MAX_DIM;
-use model::Insertion;
+use model::InsertError;
 
 // The answer, and the stream given back.
 #[derive(Clone, Copy)]
 pub struct Inserted {
-    pub answer: Insertion,
+    pub answer: Result<(), InsertError>,
     pub stream: DbStream,
 }
 
@@ -82,7 +82,7 @@ impl DbStream {
         let scan = db_neighbours::scan_for(micros, n, point, dim, self.params.settings.r);
         let place = scan.has_place(n);
         let answer = model::insertion_asked(dim, x.len(), self.t, place);
-        let stream = self.taken(answer.is_done(), scan, point, dim);
+        let stream = self.taken(answer.is_ok(), scan, point, dim);
         Inserted { answer, stream }
     }
 }

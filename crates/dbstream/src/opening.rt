@@ -8,12 +8,12 @@ ghost use Rattle.dbstream.specs.View.{view, with_dim, opened_told};
 
 use crate::stream::DbStream;
 use drift::DriftMonitor;
-use model::{Body, DbMicro, DbParams, DbSettings, LINKS, Link, MICROS, MicroId, Opening};
+use model::{Body, DbMicro, DbParams, DbSettings, LINKS, Link, MICROS, MicroId, OpenError};
 
 // The answer, and the stream; beside a refusal stands one whose settings are all 0.
 #[derive(Clone, Copy)]
 pub struct Opened {
-    pub answer: Opening,
+    pub answer: Result<(), OpenError>,
     pub stream: DbStream,
 }
 
@@ -64,7 +64,7 @@ impl DbStream {
             settings.alpha,
             settings.min_weight,
         );
-        if answer.is_open() {
+        if answer.is_ok() {
             let stream = DbStream::fresh(settings);
             return Opened { answer, stream };
         }

@@ -9,10 +9,10 @@ ghost use Rattle.readout.specs.Told.{labels_told, statistics_told};
 ghost use Rattle.denstream.specs.View.{view};
 
 use denstream::DenStream;
-use model::{Prediction, ReadOut};
+use model::{ShapeError, TooShort};
 
 // The label of each; what lies beyond in the slice stays.
-pub fn labels(stream: DenStream, out: &mut [i64]) -> ReadOut
+pub fn labels(stream: DenStream, out: &mut [i64]) -> Result<(), TooShort>
     ensures { labels_told result out.new ≡ labels_read_of (view stream) out.old }
 {
     let labels = stream.labels;
@@ -28,7 +28,7 @@ pub fn n_clusters(stream: DenStream) -> usize
 }
 
 // The label of the nearest, if it is no farther than eps.
-pub fn try_predict(stream: DenStream, x: &[f64]) -> Prediction
+pub fn try_predict(stream: DenStream, x: &[f64]) -> Result<i64, ShapeError>
     ensures { prediction_said result ≡ predict_of (view stream) x.now }
 {
     let params = stream.params;
@@ -53,7 +53,7 @@ pub fn potential_stats(
     centres: &mut [f64],
     weights: &mut [f64],
     radii: &mut [f64],
-) -> ReadOut
+) -> Result<(), TooShort>
     ensures { statistics_told result centres.new weights.new radii.new
         ≡ statistics_of (view stream) centres.old weights.old radii.old }
 {

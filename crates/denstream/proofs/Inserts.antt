@@ -5,8 +5,7 @@ use mathlib.Core.Bool.{Bool, true, cond}
 use mathlib.Core.List.{List}
 use lib.Ieee.{Float}
 use lib.ListN.{length}
-use Rattle.model.specs.declared.answers.Insertion.{Insertion}
-use Rattle.model.specs.Answers.{is_done}
+use Rattle.model.specs.Answers.{is_done, Insertion}
 use Rattle.model.specs.Questions.{insertion_asked}
 use Rattle.model.specs.Laws.Insert.{taken_asks}
 use Rattle.model.proofs.Laws.Stream.{inserted_by}

@@ -5,9 +5,7 @@ use mathlib.Core.Bool.{Bool, cond}
 use lib.Ieee.{lt}
 use Rattle.float.specs.Rounded.{one}
 use Rattle.feature.specs.Feature.{max_dim}
-use Rattle.model.specs.declared.answers.Opening.{Opening}
-use Rattle.model.specs.declared.answers.Opening.TheVariants.{Open, BetaMu}
-use Rattle.model.specs.Answers.{opening_number, is_open}
+use Rattle.model.specs.Answers.{opening_number, is_open, Opening}
 use Rattle.model.specs.Numbers.{den_opening_no}
 use Rattle.model.specs.Questions.{first_no, questions}
 use Rattle.model.specs.Periods.{bm_of}
@@ -17,17 +15,19 @@ use Rattle.model.specs.Laws.Open.{one_more, opened_as}
 use Rattle.model.specs.DenState.{Settings, State}
 use Rattle.model.specs.Denstream.{denstream, asked, fresh, open_of}
 use Rattle.den_pool.specs.Held.{with_dim}
+use Rattle.model.specs.declared.answers.OpenError.TheVariants.{BetaMu}
+use Rattle.std.specs.Prelude.{Ok, Err}
 
 -- a answers what both streams ask; above says whether beta * mu is above 1
 pub asked_of :
     (p : Settings) (a : Opening) (others above : Bool) →
-    a ≡ first_no (questions p.dim p.eps p.lambda p.beta p.mu) Open →
+    a ≡ first_no (questions p.dim p.eps p.lambda p.beta p.mu) (Ok tt) →
     is_open a ≡ others →
     lt one (bm_of p.beta p.mu) ≡ above →
-    cond others (cond above Open BetaMu) a ≡ asked p
+    cond others (cond above (Ok tt) (Err BetaMu)) a ≡ asked p
 unfolding stream.asked
 asked_of p =
-    one_more (lt one (bm_of p.beta p.mu), BetaMu) (questions p.dim p.eps p.lambda p.beta p.mu)
+    one_more (lt one (bm_of p.beta p.mu), Err BetaMu) (questions p.dim p.eps p.lambda p.beta p.mu)
     (refl, (refl, (refl, (refl, (refl, tt)))))
 
 -- both clauses: a is the answer, v the stream beside it

@@ -10,12 +10,12 @@ ghost use Rattle.denstream.specs.Inside.Placed.{placed_by};
 use crate::stream::DenStream;
 use den_placement::{Placement, Target};
 use feature::MAX_DIM;
-use model::Insertion;
+use model::InsertError;
 
 // The answer, and the stream given back.
 #[derive(Clone, Copy)]
 pub struct Inserted {
-    pub answer: Insertion,
+    pub answer: Result<(), InsertError>,
     pub stream: DenStream,
 }
 
@@ -90,7 +90,7 @@ impl DenStream {
         let target = p.target;
         let place = target.takes();
         let answer = model::insertion_asked(dim, x.len(), self.t, place);
-        let stream = self.taken(answer.is_done(), p);
+        let stream = self.taken(answer.is_ok(), p);
         Inserted { answer, stream }
     }
 }

@@ -10,33 +10,30 @@ ghost use Rattle.denstream.specs.View.{view, opened_told};
 
 use crate::stream::DenStream;
 use drift::DriftMonitor;
-use model::{Body, DenMicro, DenParams, DenSettings, MICROS, Opening};
+use model::{Body, DenMicro, DenParams, DenSettings, MICROS, OpenError};
 
 // The answer, and the stream; beside a refusal stands one whose settings are all 0.
 #[derive(Clone, Copy)]
 pub struct Opened {
-    pub answer: Opening,
+    pub answer: Result<(), OpenError>,
     pub stream: DenStream,
 }
 
 // What both streams ask, then one question more: is beta * mu above 1?
-fn asked(settings: DenSettings) -> Opening
+fn asked(settings: DenSettings) -> Result<(), OpenError>
     ensures { result ≡ doc.asked settings }
 {
-    let first = model::asked(
+    model::asked(
         settings.dim,
         settings.eps,
         settings.lambda,
         settings.beta,
         settings.mu,
-    );
-    if !first.is_open() {
-        return first;
-    }
+    )?;
     if 1.0 < settings.beta * settings.mu {
-        return Opening::Open;
+        return Ok(());
     }
-    Opening::BetaMu
+    Err(OpenError::BetaMu)
 }
 
 impl DenStream {
@@ -74,7 +71,7 @@ impl DenStream {
         ensures said { opening_number result.answer ≡ den_opening_no settings }
     {
         let answer = asked(settings);
-        if answer.is_open() {
+        if answer.is_ok() {
             let stream = DenStream::fresh(settings);
             return Opened { answer, stream };
         }

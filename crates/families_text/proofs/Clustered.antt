@@ -16,7 +16,6 @@ use Rattle.dbstream.specs.View.{view, dim_of}
 use Rattle.labels.proofs.Laws.Label.{labels_tell}
 use Rattle.drift.specs.declared.DriftReport.{DriftReport}
 use Rattle.drift.specs.Monitor.{report_of}
-use Rattle.model.specs.declared.answers.ReadOut.{ReadOut}
 use Rattle.model.specs.declared.micro.MicroId.{MicroId}
 use Rattle.model.specs.Limits.{micros_most}
 use Rattle.model.specs.Families.{labels_by}
@@ -28,6 +27,7 @@ use Rattle.model.specs.Dbstream.{cluster_of, labels_read_of}
 use Rattle.readout.specs.Told.{labels_told}
 use Rattle.families_lines.specs.Lines.{lines_of, last_line}
 use Rattle.families_text.specs.Families.{cluster_text}
+use Rattle.model.specs.Answers.{ReadOut}
 
 pub few_ids :
     (s : State) (n : ℕ) (ids : List MicroId) →

@@ -8,13 +8,13 @@ use native.Mathlib.Nat.{suc-mul}
 use native.Mathlib.Omega.{arith}
 use borrow.Author.Tests.{eq-eqb, ne_eqb}
 use lib.Ieee.{Float}
-use Rattle.model.specs.declared.answers.Insertion.TheVariants.{Done}
 use Rattle.model.specs.Answers.{insertion_number, is_done}
 use Rattle.model.specs.Outcome.{Outcome}
 use Rattle.model.specs.DbState.{State}
 use Rattle.model.specs.Dbstream.{insert_of}
 use Rattle.input_session.specs.Input.{doubles_from, points_from}
 use Rattle.input_session.specs.Session.{insert_all}
+use Rattle.std.specs.Prelude.{Ok}
 
 -- the bytes of the points left are those of the next and of the others
 pub one_point : (left size : ℕ) → 0 < left → left * size ≡ size + (left - 1) * size
@@ -31,7 +31,7 @@ next_point (suc left) dim bytes at h =
 
 pub none_left :
     (left dim : ℕ) (bytes : List ℕ) (at : ℕ) (s : State) → left ≡ 0 →
-    insert_all s (points_from left dim bytes at) ≡ record { answer = Done; stream = s }
+    insert_all s (points_from left dim bytes at) ≡ record { answer = Ok tt; stream = s }
 unfolding insert_all points_from
 none_left left dim bytes at s h = ap (λ (k : ℕ). insert_all s (points_from k dim bytes at)) h
 

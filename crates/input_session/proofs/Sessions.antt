@@ -7,9 +7,7 @@ use native.Mathlib.Omega.{arith}
 use lib.Dec.{T, eqb, leb, leb→le}
 use lib.Ieee.Fits.{and_l, and_r}
 use lib.ListN.{length}
-use Rattle.model.specs.declared.answers.Opening.{Opening}
-use Rattle.model.specs.declared.answers.Opening.TheVariants.{Open, Dim, Radius, Lambda, Share, Weight}
-use Rattle.model.specs.Answers.{opening_number, is_open}
+use Rattle.model.specs.Answers.{opening_number, is_open, Opening}
 use Rattle.model.specs.Questions.{dim_in_range, positive, lambda_in_range, share_in_range, first_no}
 use Rattle.model.specs.Outcome.{Opened, Outcome}
 use Rattle.model.specs.Stream as stream
@@ -17,6 +15,8 @@ use Rattle.model.specs.DbState.{Settings, State}
 use Rattle.model.specs.Dbstream.{open_of}
 use Rattle.input_session.specs.Input.{input_most, head_size, settings_in, points_in, is_whole}
 use Rattle.input_session.specs.Session.{Ran, ran, insert_all, inserted_ran, opened_ran, ran_of}
+use Rattle.model.specs.declared.answers.OpenError.TheVariants.{Dim, Radius, Lambda, Share, Weight}
+use Rattle.std.specs.Prelude.{Ok, Err}
 
 -- an opening that is accepted has dim in range
 pub open_dim : (p : Settings) (o : Opened State) → o ≡ open_of p → is_open o.answer ≡ true → dim_in_range p.dim ≡ true
@@ -26,10 +26,10 @@ open_dim p o e h = go (dim_in_range p.dim) (sym (ap (λ (q : Opened State). is_o
     rest : Opening
     rest =
         first_no
-        ((positive p.r, Radius) ∷ (lambda_in_range p.lambda, Lambda) ∷ (share_in_range p.alpha, Share) ∷ (positive p.min_weight, Weight) ∷ [])
-        Open
+        ((positive p.r, Err Radius) ∷ (lambda_in_range p.lambda, Err Lambda) ∷ (share_in_range p.alpha, Err Share) ∷ (positive p.min_weight, Err Weight) ∷ [])
+        (Ok tt)
 
-    go : (b : Bool) → is_open (cond b rest Dim) ≡ true → b ≡ true
+    go : (b : Bool) → is_open (cond b rest (Err Dim)) ≡ true → b ≡ true
     go true q = refl
     go false q = absurd (let z : ◌≡◌ {A = ℕ} 0 1 = cc in omega arith)
 

@@ -1,6 +1,5 @@
 -- Document 01, `families`: the session that an input gives. Definitions only.
-use Rattle.std.specs.Prelude.{ℕ, cond, List, [], ◌∷◌, Float}
-use Rattle.model.specs.declared.answers.Insertion.TheVariants.{Done}
+use Rattle.std.specs.Prelude.{ℕ, cond, List, [], ◌∷◌, Float, Ok}
 use Rattle.model.specs.Answers.{opening_number, is_open, insertion_number, is_done}
 use Rattle.model.specs.Outcome.{Opened, Outcome}
 use Rattle.model.specs.Stream.{insert_by}
@@ -11,7 +10,7 @@ use Rattle.input_session.specs.Input.{settings_in, points_in, is_whole}
 -- "stops at the first refusal, an insert's included"
 unfoldable pub insert_all : State → List (List Float) → Outcome State
 unfolding insert_by
-insert_all s [] = record { answer = Done; stream = s }
+insert_all s [] = record { answer = Ok tt; stream = s }
 insert_all s (x ∷ xs) = cond (is_done (insert_of s x).answer) (insert_all (insert_of s x).stream xs) (insert_of s x)
 
 -- the number of the first refusal, 0 where there is none, and the stream as far as it came

@@ -34,9 +34,9 @@ pub fn session_of(input: &[u8]) -> Session
         };
     }
     let opening = opened.answer;
-    if !opening.is_open() {
+    if opening.is_err() {
         return Session {
-            number: opening.number(),
+            number: model::number_of(opening),
             stream: fresh,
         };
     }
@@ -45,7 +45,7 @@ pub fn session_of(input: &[u8]) -> Session
     let answer = inserted.answer;
     let stream = inserted.stream;
     Session {
-        number: answer.number(),
+        number: model::number_of(answer),
         stream,
     }
 }

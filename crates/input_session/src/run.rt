@@ -7,7 +7,7 @@ ghost use Rattle.input_session.specs.Session.{insert_all};
 
 use crate::parse::{HEAD, WORD, double_at, point};
 use dbstream::{DbStream, Inserted, Opened};
-use model::{DbSettings, Insertion};
+use model::DbSettings;
 use words::word_at;
 
 // The stream that the settings open.
@@ -43,14 +43,14 @@ pub(crate) fn insert_all(stream: DbStream, bytes: &[u8], dim: usize) -> Inserted
         let r = s.try_insert(&x[..dim]);
         s = r.stream;
         let answer = r.answer;
-        if answer.number() != 0 {
+        if answer.is_err() {
             return Inserted { answer, stream: s };
         }
         at += step;
         left -= 1;
     }
     Inserted {
-        answer: Insertion::Done,
+        answer: Ok(()),
         stream: s,
     }
 }

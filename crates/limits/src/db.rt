@@ -36,7 +36,7 @@ fn inserts(stream: DbStream, points: &[f64]) -> DbStream {
         s = r.stream;
         let answer = r.answer;
         let micros = s.micros;
-        say(answer.number(), s.t, micros, s.count);
+        say(model::number_of(answer), s.t, micros, s.count);
         i += 1;
     }
     s

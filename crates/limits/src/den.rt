@@ -51,7 +51,7 @@ fn inserts(stream: DenStream, points: &[f64]) -> DenStream {
         let potential = s.potential;
         let outliers = s.outliers;
         say(
-            answer.number(),
+            model::number_of(answer),
             s.t,
             potential,
             s.potential_count,

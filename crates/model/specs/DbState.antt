@@ -5,10 +5,10 @@ use Rattle.model.specs.declared.micro.DbMicro.{DbMicro}
 use Rattle.model.specs.declared.link.Link.{Link}
 use Rattle.model.specs.declared.settings.DbSettings.{DbSettings}
 use Rattle.model.specs.declared.params.DbParams.{DbParams}
-use Rattle.model.specs.declared.answers.Opening.{Opening}
 use Rattle.model.specs.Questions as asks
 use Rattle.model.specs.Periods.{t_gap_of, floor_of}
 use Rattle.model.specs.Stream as stream
+use Rattle.model.specs.Answers.{Opening}
 
 abbrev pub Settings : Type 0
 Settings = DbSettings

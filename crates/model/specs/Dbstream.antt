@@ -2,8 +2,7 @@
 use Rattle.std.specs.Prelude.{ℕ, Bool, List, [], map, length, ℤ, Float}
 use Rattle.float.specs.Rounded.{◌⊗◌}
 use Rattle.model.specs.declared.micro.DbMicro.{DbMicro}
-use Rattle.model.specs.declared.answers.Opening.{Opening}
-use Rattle.model.specs.Answers.{Said}
+use Rattle.model.specs.Answers.{Said, Opening}
 use Rattle.model.specs.Outcome.{Opened, Outcome}
 use Rattle.model.specs.ReadOut.{LabelsRead, Statistics}
 use Rattle.model.specs.Stream as stream

@@ -1,15 +1,15 @@
 -- What a DenStream keeps, and its opening's questions. Definitions only.
-use Rattle.std.specs.Prelude.{Bool, List, [], ◌∷◌, ◌++◌}
+use Rattle.std.specs.Prelude.{Bool, List, [], ◌∷◌, ◌++◌, Err}
 use Rattle.std.specs.Float.Ieee.{lt}
 use Rattle.float.specs.Rounded.{◌⊗◌, nought, one}
 use Rattle.model.specs.declared.micro.DenMicro.{DenMicro}
 use Rattle.model.specs.declared.settings.DenSettings.{DenSettings}
 use Rattle.model.specs.declared.params.DenParams.{DenParams}
-use Rattle.model.specs.declared.answers.Opening.{Opening}
-use Rattle.model.specs.declared.answers.Opening.TheVariants.{BetaMu}
 use Rattle.model.specs.Questions as asks
 use Rattle.model.specs.Periods.{bm_of, tp_of}
 use Rattle.model.specs.Stream as stream
+use Rattle.model.specs.declared.answers.OpenError.TheVariants.{BetaMu}
+use Rattle.model.specs.Answers.{Opening}
 
 abbrev pub Settings : Type 0
 Settings = DenSettings
@@ -43,4 +43,4 @@ zeros = record { dim = 0; eps = nought; lambda = nought; beta = nought; mu = nou
 
 -- "Opening a stream", its questions in order; "DenStream: is beta × mu above 1? No: 6."
 abbrev pub questions : Settings → List (Bool × Opening)
-questions p = asks.questions p.dim p.eps p.lambda p.beta p.mu ++ (lt one (bm_of p.beta p.mu), BetaMu) ∷ []
+questions p = asks.questions p.dim p.eps p.lambda p.beta p.mu ++ (lt one (bm_of p.beta p.mu), Err BetaMu) ∷ []

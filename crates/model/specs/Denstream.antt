@@ -1,8 +1,7 @@
 -- Document 01: DenStream, a kind of stream; its calls. Definitions only.
 use Rattle.std.specs.Prelude.{ℕ, ◌+◌, Bool, List, [], map, length, ℤ, Float}
 use Rattle.model.specs.declared.micro.DenMicro.{DenMicro}
-use Rattle.model.specs.declared.answers.Opening.{Opening}
-use Rattle.model.specs.Answers.{Said}
+use Rattle.model.specs.Answers.{Said, Opening}
 use Rattle.model.specs.Outcome.{Opened, Outcome}
 use Rattle.model.specs.ReadOut.{LabelsRead, Statistics}
 use Rattle.model.specs.Stream as stream

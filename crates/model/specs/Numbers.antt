@@ -4,9 +4,8 @@ use Rattle.std.specs.Float.Ieee.{lt}
 use Rattle.float.specs.Rounded.{one}
 use Rattle.model.specs.declared.settings.DbSettings.{DbSettings}
 use Rattle.model.specs.declared.settings.DenSettings.{DenSettings}
-use Rattle.model.specs.declared.answers.Insertion.{Insertion}
 use Rattle.model.specs.Limits.{clock_limit}
-use Rattle.model.specs.Answers.{insertion_number, insertion_values}
+use Rattle.model.specs.Answers.{insertion_number, insertion_values, Insertion}
 use Rattle.model.specs.Questions.{first_no, dim_in_range, positive, lambda_in_range, share_in_range}
 use Rattle.model.specs.Periods.{bm_of}
 

@@ -1,8 +1,6 @@
 -- Document 01: what an opening and an insert give back, of any stream. Definitions only.
 use Rattle.std.specs.Prelude.{cond}
-use Rattle.model.specs.declared.answers.Opening.{Opening}
-use Rattle.model.specs.declared.answers.Insertion.{Insertion}
-use Rattle.model.specs.Answers.{is_open, is_done}
+use Rattle.model.specs.Answers.{is_open, is_done, Insertion, Opening}
 
 pub record Opened (S : Type 0) : Type 0 where
   pub answer : Opening

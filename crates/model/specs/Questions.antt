@@ -1,15 +1,14 @@
 -- Document 01, "Questions before each call". Definitions only.
-use Rattle.std.specs.Prelude.{ℕ, Bool, cond, ◌&&◌, List, [], ◌∷◌, ◌==◌, from_bits, nat_le, Float}
+use Rattle.std.specs.Prelude.{ℕ, Bool, cond, ◌&&◌, List, [], ◌∷◌, ◌==◌, from_bits, nat_le, Float, Ok, Err}
 use Rattle.std.specs.Float.{binary64}
 use Rattle.std.specs.Float.Ieee.{lt, le}
 use Rattle.float.specs.Rounded.{nought, one}
 use Rattle.float.specs.Order.{is_finite}
 use Rattle.feature.specs.Feature.{max_dim}
-use Rattle.model.specs.declared.answers.Opening.{Opening}
-use Rattle.model.specs.declared.answers.Opening.TheVariants.{Dim, Radius, Lambda, Share, Weight}
-use Rattle.model.specs.declared.answers.Insertion.{Insertion}
-use Rattle.model.specs.declared.answers.Insertion.TheVariants.{Done, Shape, ClockAtLimit, NoPlace}
 use Rattle.model.specs.Limits.{clock_limit}
+use Rattle.model.specs.declared.answers.OpenError.TheVariants.{Dim, Radius, Lambda, Share, Weight}
+use Rattle.model.specs.declared.answers.InsertError.TheVariants.{Shape, ClockAtLimit, NoPlace}
+use Rattle.model.specs.Answers.{Insertion, Opening}
 
 -- "The first no decides.": questions in order, each beside the answer that its no gives; and the answer where none is no
 abbrev pub first_no : {A : Type 0} → List (Bool × A) → A → A
@@ -35,13 +34,13 @@ share_in_range share = lt nought share && le share one
 -- "Opening a stream", what both streams ask: the radius is eps or r, the share beta or alpha, the weight mu or min_weight
 abbrev pub questions : (dim : ℕ) (radius lambda share weight : Float) → List (Bool × Opening)
 questions dim radius lambda share weight =
-    (dim_in_range dim, Dim)
-    ∷ (positive radius, Radius)
-    ∷ (lambda_in_range lambda, Lambda)
-    ∷ (share_in_range share, Share)
-    ∷ (positive weight, Weight)
+    (dim_in_range dim, Err Dim)
+    ∷ (positive radius, Err Radius)
+    ∷ (lambda_in_range lambda, Err Lambda)
+    ∷ (share_in_range share, Err Share)
+    ∷ (positive weight, Err Weight)
     ∷ []
 
 -- "Insert (7, 8, 9)": the point's length, the clock, and whether there is a place for the point
 abbrev pub insertion_asked : (dim got : ℕ) (t : Float) (place : Bool) → Insertion
-insertion_asked dim got t place = first_no (((got == dim), Shape dim got) ∷ (lt t clock_limit, ClockAtLimit) ∷ (place, NoPlace) ∷ []) Done
+insertion_asked dim got t place = first_no (((got == dim), Err (Shape dim got)) ∷ (lt t clock_limit, Err ClockAtLimit) ∷ (place, Err NoPlace) ∷ []) (Ok tt)

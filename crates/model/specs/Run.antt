@@ -1,7 +1,6 @@
 -- Document 01, "A whole run": every insert of a list, of any stream. Definitions only.
 use Rattle.std.specs.Prelude.{ℕ, ◌+◌, cond, List, [], ◌∷◌, Float}
-use Rattle.model.specs.declared.answers.Insertion.{Insertion}
-use Rattle.model.specs.Answers.{is_done}
+use Rattle.model.specs.Answers.{is_done, Insertion}
 use Rattle.model.specs.Outcome.{Outcome}
 
 module _ {S : Type 0} (insert : S → List Float → Outcome S) where

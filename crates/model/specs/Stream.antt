@@ -1,14 +1,12 @@
 -- Document 01: one stream, whatever it holds; DBSTREAM and DenStream say what differs. Definitions only.
-use Rattle.std.specs.Prelude.{ℕ, Bool, cond, ◌||◌, List, [], length, ℤ, nat_lt, Float}
+use Rattle.std.specs.Prelude.{ℕ, Bool, cond, ◌||◌, List, [], length, ℤ, nat_lt, Float, Ok}
 use Rattle.float.specs.Rounded.{◌⊕◌, nought, one}
 use Rattle.lists.specs.Total.{total}
 use Rattle.union_find.specs.Steps.{find_steps}
 use Rattle.drift.specs.Monitor.{Monitor, new_of, observe_of, Nearest}
 use Rattle.model.specs.declared.body.Body.{Body}
-use Rattle.model.specs.declared.answers.Opening.{Opening}
-use Rattle.model.specs.declared.answers.Opening.TheVariants.{Open}
 use Rattle.model.specs.Limits.{micros_most}
-use Rattle.model.specs.Answers.{Said}
+use Rattle.model.specs.Answers.{Said, Opening}
 use Rattle.model.specs.Questions.{first_no, insertion_asked}
 use Rattle.model.specs.Fading.{is_multiple}
 use Rattle.model.specs.Outcome.{Opened, Outcome, opened, outcome}
@@ -66,7 +64,7 @@ advanced s d = record { params = s.params; t = s.t ⊕ one; held = s.held; label
 module _ {S P H : Type 0} (k : Kind S P H) where
   -- ---- the opening
   unfoldable pub asked : S → Opening
-  asked p = first_no (k.questions p) Open
+  asked p = first_no (k.questions p) (Ok tt)
 
   -- "Fresh means as an accepted opening gives it: no micro-cluster, link or label, an empty window, no alarm, clock 0."
   abbrev pub fresh : S → State P H

@@ -1,11 +1,10 @@
-// What a stream answers.
-ghost use Rattle.std.specs.Prelude.{◌≡◌};
-ghost use Rattle.model.specs.Answers.{opening_number, insertion_number, is_open, is_done};
+// What a stream answers where it refuses: the error of each call, and its number.
+ghost use Rattle.std.specs.Prelude.{◌≡◌, MatchResult};
+ghost use Rattle.model.specs.Answers.{open_error_number, insert_error_number};
 
-// An opening's answer: the first question whose answer is no.
-#[derive(Clone, Copy)]
-pub enum Opening {
-    Open,
+// Why a stream is not opened: the first question whose answer is no.
+#[derive(Clone, Copy, PartialEq, Eq)]
+pub enum OpenError {
     Dim,
     // eps or r
     Radius,
@@ -18,80 +17,64 @@ pub enum Opening {
     BetaMu,
 }
 
-impl Opening {
-    // The refusal's number, or 0.
-    pub fn number(self) -> u64
-        ensures { result ≡ opening_number self }
-    {
-        match self {
-            Opening::Open => 0,
-            Opening::Dim => 1,
-            Opening::Radius => 2,
-            Opening::Lambda => 3,
-            Opening::Share => 4,
-            Opening::Weight => 5,
-            Opening::BetaMu => 6,
-        }
-    }
+impl From<OpenError> for u64 {
+    ghost from_gives = { λ e n. n ≡ open_error_number e };
 
-    // Whether no question was answered with no: the stream beside it is open.
-    pub fn is_open(self) -> bool
-        ensures { result ≡ is_open self }
-    {
-        self.number() == 0
+    // The refusal's number.
+    fn from(error: OpenError) -> u64 {
+        match error {
+            OpenError::Dim => 1,
+            OpenError::Radius => 2,
+            OpenError::Lambda => 3,
+            OpenError::Share => 4,
+            OpenError::Weight => 5,
+            OpenError::BetaMu => 6,
+        }
     }
 }
 
-// An insert's answer.
-#[derive(Clone, Copy)]
-pub enum Insertion {
-    Done,
+// Why a point is not taken.
+#[derive(Clone, Copy, PartialEq, Eq)]
+pub enum InsertError {
     Shape { expected: usize, got: usize },
     ClockAtLimit,
     NoPlace,
 }
 
-impl Insertion {
-    // The refusal's number, or 0.
-    pub fn number(self) -> u64
-        ensures { result ≡ insertion_number self }
-    {
-        match self {
-            Insertion::Done => 0,
-            Insertion::Shape {
-                expected: _,
-                got: _,
-            } => 7,
-            Insertion::ClockAtLimit => 8,
-            Insertion::NoPlace => 9,
+impl From<InsertError> for u64 {
+    ghost from_gives = { λ e n. n ≡ insert_error_number e };
+
+    // The refusal's number.
+    fn from(error: InsertError) -> u64 {
+        match error {
+            InsertError::Shape { .. } => 7,
+            InsertError::ClockAtLimit => 8,
+            InsertError::NoPlace => 9,
         }
     }
+}
 
-    // Whether the point was taken.
-    pub fn is_done(self) -> bool
-        ensures { result ≡ is_done self }
-    {
-        self.number() == 0
+// Why a point is told no label: its length is not the stream's.
+#[derive(Clone, Copy, PartialEq, Eq)]
+pub struct ShapeError {
+    pub expected: usize,
+    pub got: usize,
+}
+
+// Why nothing is read out: a lent slice has no place for each element due.
+#[derive(Clone, Copy, PartialEq, Eq)]
+pub struct TooShort;
+
+// Why there is no connectivity: the creation numbers are not both held, or not different.
+#[derive(Clone, Copy, PartialEq, Eq)]
+pub struct NotLive;
+
+// The number of an answer: the refusal's, or 0.
+pub fn number_of<E: Into<u64>>(answer: Result<(), E>) -> u64
+    ensures { MatchResult answer (λ _. result ≡ 0) (λ e. E.converts e result) }
+{
+    match answer {
+        Ok(()) => 0,
+        Err(error) => error.into(),
     }
-}
-
-// A prediction's answer.
-#[derive(Clone, Copy)]
-pub enum Prediction {
-    Label(i64),
-    Shape { expected: usize, got: usize },
-}
-
-// The answer of a read-out into lent slices.
-#[derive(Clone, Copy)]
-pub enum ReadOut {
-    Written,
-    TooShort,
-}
-
-// The answer of DBSTREAM's connectivity.
-#[derive(Clone, Copy)]
-pub enum Connectivity {
-    Density(f64),
-    NotLive,
 }

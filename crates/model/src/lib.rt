@@ -14,7 +14,7 @@ mod point;
 mod questions;
 mod settings;
 
-pub use answers::{Connectivity, Insertion, Opening, Prediction, ReadOut};
+pub use answers::{InsertError, NotLive, OpenError, ShapeError, TooShort, number_of};
 pub use body::Body;
 pub use clock::{Clock, Ticked};
 pub use fading::faded;

@@ -1,9 +1,9 @@
 // The questions before a stream opens, each a test of its own, and before an insert.
-ghost use Rattle.std.specs.Prelude.{◌≡◌};
+ghost use Rattle.std.specs.Prelude.{◌≡◌, Ok};
 ghost use Rattle.model.specs.Questions.{dim_in_range, lambda_in_range, share_in_range, first_no, questions, insertion_asked};
 ghost use Rattle.model.specs.Questions as doc;
 
-use crate::answers::{Insertion, Opening};
+use crate::answers::{InsertError, OpenError};
 use crate::limits::CLOCK;
 use feature::MAX_DIM;
 
@@ -40,39 +40,39 @@ fn share_in_range(share: f64) -> bool
 }
 
 // The questions of both streams in order: the first no decides.
-pub fn asked(dim: usize, radius: f64, lambda: f64, share: f64, weight: f64) -> Opening
-    ensures { result ≡ first_no (questions dim radius lambda share weight) Opening.Open }
+pub fn asked(dim: usize, radius: f64, lambda: f64, share: f64, weight: f64) -> Result<(), OpenError>
+    ensures { result ≡ first_no (questions dim radius lambda share weight) (Ok tt) }
 {
     if !dim_in_range(dim) {
-        return Opening::Dim;
+        return Err(OpenError::Dim);
     }
     if !positive(radius) {
-        return Opening::Radius;
+        return Err(OpenError::Radius);
     }
     if !lambda_in_range(lambda) {
-        return Opening::Lambda;
+        return Err(OpenError::Lambda);
     }
     if !share_in_range(share) {
-        return Opening::Share;
+        return Err(OpenError::Share);
     }
     if !positive(weight) {
-        return Opening::Weight;
+        return Err(OpenError::Weight);
     }
-    Opening::Open
+    Ok(())
 }
 
 // An insert's questions in order; place says whether the point would be absorbed or has a place.
-pub fn insertion_asked(dim: usize, got: usize, t: f64, place: bool) -> Insertion
+pub fn insertion_asked(dim: usize, got: usize, t: f64, place: bool) -> Result<(), InsertError>
     ensures { result ≡ insertion_asked dim got t place }
 {
     if got != dim {
-        return Insertion::Shape { expected: dim, got };
+        return Err(InsertError::Shape { expected: dim, got });
     }
     if !(t < CLOCK) {
-        return Insertion::ClockAtLimit;
+        return Err(InsertError::ClockAtLimit);
     }
     if !place {
-        return Insertion::NoPlace;
+        return Err(InsertError::NoPlace);
     }
-    Insertion::Done
+    Ok(())
 }

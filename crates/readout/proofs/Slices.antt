@@ -13,23 +13,23 @@ use Rattle.model.specs.Limits.{micros_most}
 use Rattle.lists.specs.Laws.Rest.{cut_take}
 use Rattle.feature.specs.Feature.{max_dim}
 use Rattle.model.specs.declared.body.Body.{Body}
-use Rattle.model.specs.declared.answers.ReadOut.TheVariants.{Written, TooShort}
 use Rattle.model.specs.Body.{faded_weight, radius_of, body_in}
 use Rattle.model.specs.ReadOut.{Statistics, written, centres_of, labels_read, statistics_read}
 use Rattle.readout.specs.Seen.{seen}
 use Rattle.readout.specs.Told.{labels_told, statistics_told}
 use Rattle.readout.proofs.Centres.{Wide, centres_due, due_length}
 use Rattle.readout.proofs.Figures.{figures_length, figures_in}
+use Rattle.std.specs.Prelude.{Ok, Err}
 
 module _ (due lent : List ℤ) where
-  labels_by : (b : Bool) → leb (length due) (length lent) ≡ b → labels_read due lent ≡ cond b (labels_told Written (written due lent)) (labels_told TooShort lent)
-  labels_by b e = ap (λ (t : Bool). cond t (labels_told Written (written due lent)) (labels_told TooShort lent)) e
+  labels_by : (b : Bool) → leb (length due) (length lent) ≡ b → labels_read due lent ≡ cond b (labels_told (Ok tt) (written due lent)) (labels_told (Err _) lent)
+  labels_by b e = ap (λ (t : Bool). cond t (labels_told (Ok tt) (written due lent)) (labels_told (Err _) lent)) e
 
-  pub labels_short : length lent < length due → labels_told TooShort lent ≡ labels_read due lent
+  pub labels_short : length lent < length due → labels_told (Err _) lent ≡ labels_read due lent
   labels_short h = sym (labels_by false (lt-leb (length due) (length lent) h))
 
-  pub labels_written : length due ≤ length lent → (out : List ℤ) → out ≡ written due lent → labels_told Written out ≡ labels_read due lent
-  labels_written h out e = ap (labels_told Written) e ∙ sym (labels_by true (le-leb (length due) (length lent) h))
+  pub labels_written : length due ≤ length lent → (out : List ℤ) → out ≡ written due lent → labels_told (Ok tt) out ≡ labels_read due lent
+  labels_written h out e = ap (labels_told (Ok tt)) e ∙ sym (labels_by true (le-leb (length due) (length lent) h))
 
 -- ---- of the first n bodies, cut to dim coordinates
 pub record Counted (bodies : List Body) (n end dim w : ℕ) : Type 0 where
@@ -56,31 +56,31 @@ module _ (lambda t : Float) {bodies : List Body} {n end dim w : ℕ} (q : Counte
 
   module _ (centres weights radii : List Float) where
     abbrev all : Statistics
-    all = statistics_told Written (written (centres_of due) centres) (written (map (faded_weight lambda t) due) weights) (written (map radius_of due) radii)
+    all = statistics_told (Ok tt) (written (centres_of due) centres) (written (map (faded_weight lambda t) due) weights) (written (map radius_of due) radii)
 
     read_by :
         (a b c : Bool) →
         leb (end * w) (length centres) ≡ a →
         leb end (length weights) ≡ b →
         leb end (length radii) ≡ c →
-        statistics_read lambda t due centres weights radii ≡ cond (a && b && c) all (statistics_told TooShort centres weights radii)
+        statistics_read lambda t due centres weights radii ≡ cond (a && b && c) all (statistics_told (Err _) centres weights radii)
     read_by a b c ea eb ec =
-        ap (λ (t : Bool). cond t all (statistics_told TooShort centres weights radii))
+        ap (λ (t : Bool). cond t all (statistics_told (Err _) centres weights radii))
         (ap₂ (λ (s t : Bool). s && t)
         (ap₂ (λ (s t : Bool). s && t)
         (ap (λ (k : ℕ). leb k (length centres)) centres_count ∙ ea)
         (ap (λ (k : ℕ). leb k (length weights)) (figures_count (faded_weight lambda t) (λ b. refl)) ∙ eb))
         (ap (λ (k : ℕ). leb k (length radii)) (figures_count radius_of (λ b. refl)) ∙ ec))
 
-    pub short_centres : length centres < end * w → statistics_told TooShort centres weights radii ≡ statistics_read lambda t due centres weights radii
+    pub short_centres : length centres < end * w → statistics_told (Err _) centres weights radii ≡ statistics_read lambda t due centres weights radii
     short_centres h = sym (read_by false (leb end (length weights)) (leb end (length radii)) (lt-leb (end * w) (length centres) h) refl refl)
 
     module _ (hc : end * w ≤ length centres) where
-      pub short_weights : length weights < end → statistics_told TooShort centres weights radii ≡ statistics_read lambda t due centres weights radii
+      pub short_weights : length weights < end → statistics_told (Err _) centres weights radii ≡ statistics_read lambda t due centres weights radii
       short_weights h = sym (read_by true false (leb end (length radii)) (le-leb (end * w) (length centres) hc) (lt-leb end (length weights) h) refl)
 
       module _ (hw : end ≤ length weights) where
-        pub short_radii : length radii < end → statistics_told TooShort centres weights radii ≡ statistics_read lambda t due centres weights radii
+        pub short_radii : length radii < end → statistics_told (Err _) centres weights radii ≡ statistics_read lambda t due centres weights radii
         short_radii h = sym (read_by true true false (le-leb (end * w) (length centres) hc) (le-leb end (length weights) hw) (lt-leb end (length radii) h))
 
         pub all_written :
@@ -89,7 +89,7 @@ module _ (lambda t : Float) {bodies : List Body} {n end dim w : ℕ} (q : Counte
             c ≡ written (centres_due w end bodies) centres →
             f ≡ written (map (faded_weight lambda t) (take end bodies)) weights →
             r ≡ written (map radius_of (take end bodies)) radii →
-            statistics_told Written c f r ≡ statistics_read lambda t due centres weights radii
+            statistics_told (Ok tt) c f r ≡ statistics_read lambda t due centres weights radii
         all_written hr c f r ec ef er =
             ap₃
             (ec ∙ ap (λ (l : List Body). written (centres_of l) centres) (sym seen_is))
@@ -97,5 +97,5 @@ module _ (lambda t : Float) {bodies : List Body} {n end dim w : ℕ} (q : Counte
             (er ∙ ap (λ (l : List Float). written l radii) (sym (figures_are radius_of (λ b. refl))))
             ∙ sym (read_by true true true (le-leb (end * w) (length centres) hc) (le-leb end (length weights) hw) (le-leb end (length radii) hr))
           where
-            ap₃ : {a b d e g h : List Float} → a ≡ b → d ≡ e → g ≡ h → statistics_told Written a d g ≡ statistics_told Written b e h
+            ap₃ : {a b d e g h : List Float} → a ≡ b → d ≡ e → g ≡ h → statistics_told (Ok tt) a d g ≡ statistics_told (Ok tt) b e h
             ap₃ p q s = rw (p, q, s)

@@ -1,8 +1,7 @@
 -- What the read-outs say of what they are given. Definitions only.
 use Rattle.std.specs.Prelude.{cond, List, eqb, ℤ, negsuc, Float, length, get_or}
 use Rattle.std.specs.Float.Ieee.{le}
-use Rattle.model.specs.declared.answers.ReadOut.{ReadOut}
-use Rattle.model.specs.Answers.{read_out_number}
+use Rattle.model.specs.Answers.{read_out_number, ReadOut}
 use Rattle.model.specs.ReadOut.{LabelsRead, Statistics}
 use Rattle.readout.specs.declared.distances.Found.{Found}
 use Rattle.readout.specs.declared.distances.Found.TheVariants.{Nothing, At}

@@ -7,7 +7,7 @@ ghost use Rattle.model.specs.ReadOut.{written, labels_read, same_family, cluster
 ghost use Rattle.readout.specs.Told.{label_among, labels_told};
 
 use crate::distances::{Found, nearest};
-use model::{MICROS, ReadOut};
+use model::{MICROS, TooShort};
 
 // The label of the nearest; -1 if the counts differ, none exists, or the nearest is too far.
 pub(crate) fn label_for(
@@ -42,15 +42,15 @@ fn write_labels(labels: [i64; MICROS], end: usize, out: &mut [i64])
 }
 
 // The first count labels.
-pub fn read_labels(labels: [i64; MICROS], count: usize, out: &mut [i64]) -> ReadOut
+pub fn read_labels(labels: [i64; MICROS], count: usize, out: &mut [i64]) -> Result<(), TooShort>
     ensures { labels_told result out.new ≡ labels_read (take count labels) out.old }
 {
     let end = lists::cut(count, MICROS);
     if out.len() < end {
-        return ReadOut::TooShort;
+        return Err(TooShort);
     }
     write_labels(labels, end, out);
-    ReadOut::Written
+    Ok(())
 }
 
 // Whether both are one cluster's; -1 is no cluster's.

@@ -7,7 +7,7 @@ ghost use Rattle.readout.specs.Seen.{seen, distance_in};
 
 use crate::label_readout::label_for;
 use feature::{MAX_DIM, sq_euclidean};
-use model::{Body, MICROS, Prediction};
+use model::{Body, MICROS, ShapeError};
 
 // The squared distances of the point to the means.
 fn distances(bodies: [Body; MICROS], n: usize, x: [f64; MAX_DIM], dim: usize) -> [f64; MICROS]
@@ -35,19 +35,19 @@ pub fn predict(
     radius2: f64,
     dim: usize,
     x: &[f64],
-) -> Prediction
+) -> Result<i64, ShapeError>
     ensures { prediction_said result ≡ predict_of (min dim max_dim) radius2 (seen dim n bodies) (take label_count labels) x.now }
 {
     let width = lists::cut(dim, MAX_DIM);
     let got = x.len();
     if got != width {
-        return Prediction::Shape {
+        return Err(ShapeError {
             expected: width,
             got,
-        };
+        });
     }
     let p = model::padded(x);
     let ds = distances(bodies, n, p, width);
     let label = label_for(ds, n, labels, label_count, radius2);
-    Prediction::Label(label)
+    Ok(label)
 }

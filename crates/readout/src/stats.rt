@@ -9,7 +9,7 @@ ghost use Rattle.readout.specs.Told.{statistics_told};
 
 use crate::writing::write;
 use feature::MAX_DIM;
-use model::{Body, MICROS, ReadOut};
+use model::{Body, MICROS, TooShort};
 
 // The means' first coordinates, one mean after another.
 fn write_centres(bodies: [Body; MICROS], end: usize, width: usize, out: &mut [f64])
@@ -59,22 +59,22 @@ pub fn statistics(
     centres: &mut [f64],
     weights: &mut [f64],
     radii: &mut [f64],
-) -> ReadOut
+) -> Result<(), TooShort>
     ensures { statistics_told result centres.new weights.new radii.new
         ≡ statistics_read lambda t (seen dim n bodies) centres.old weights.old radii.old }
 {
     let end = lists::cut(n, MICROS);
     let width = lists::cut(dim, MAX_DIM);
     if centres.len() < end * width {
-        return ReadOut::TooShort;
+        return Err(TooShort);
     }
     if weights.len() < end {
-        return ReadOut::TooShort;
+        return Err(TooShort);
     }
     if radii.len() < end {
-        return ReadOut::TooShort;
+        return Err(TooShort);
     }
     write_centres(bodies, end, width, centres);
     write_figures(bodies, end, lambda, t, weights, radii);
-    ReadOut::Written
+    Ok(())
 }

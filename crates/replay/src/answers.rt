@@ -2,7 +2,7 @@
 use crate::output::{Line, double, end, label, number, put, say, start};
 use crate::rows::labels;
 use drift::DriftReport;
-use model::{Connectivity, Insertion, MICROS, Opening, Prediction, ReadOut};
+use model::{InsertError, MICROS, NotLive, OpenError, ShapeError, TooShort};
 
 // An opening or an insert that is accepted.
 pub fn say_ok() {
@@ -19,12 +19,12 @@ fn say_refused(code: u64) {
 }
 
 // Whether the stream is open; the answer is printed.
-pub fn opens(answer: Opening) -> bool {
-    if answer.is_open() {
+pub fn opens(answer: Result<(), OpenError>) -> bool {
+    if answer.is_ok() {
         say_ok();
         return true;
     }
-    say_refused(answer.number());
+    say_refused(model::number_of(answer));
     false
 }
 
@@ -34,12 +34,12 @@ fn say_shape(expected: usize, got: usize) {
 }
 
 // Operation 3.
-pub fn say_insertion(answer: Insertion) {
+pub fn say_insertion(answer: Result<(), InsertError>) {
     match answer {
-        Insertion::Done => say_ok(),
-        Insertion::Shape { expected, got } => say_shape(expected, got),
-        Insertion::ClockAtLimit => say_refused(8),
-        Insertion::NoPlace => say_refused(9),
+        Ok(()) => say_ok(),
+        Err(InsertError::Shape { expected, got }) => say_shape(expected, got),
+        Err(InsertError::ClockAtLimit) => say_refused(8),
+        Err(InsertError::NoPlace) => say_refused(9),
     }
 }
 
@@ -49,8 +49,8 @@ pub fn say_clustered(finds: u64, steps: u64) {
 }
 
 // Operation 5: as many labels as were written.
-pub fn say_labels(answer: ReadOut, read: [i64; MICROS], count: usize) {
-    let ReadOut::Written = answer else {
+pub fn say_labels(answer: Result<(), TooShort>, read: [i64; MICROS], count: usize) {
+    let Ok(()) = answer else {
         say_refused(10);
         return;
     };
@@ -58,18 +58,18 @@ pub fn say_labels(answer: ReadOut, read: [i64; MICROS], count: usize) {
 }
 
 // Operation 6.
-pub fn say_prediction(answer: Prediction) {
+pub fn say_prediction(answer: Result<i64, ShapeError>) {
     match answer {
-        Prediction::Label(l) => end(label(start(b"label"), l)),
-        Prediction::Shape { expected, got } => say_shape(expected, got),
+        Ok(l) => end(label(start(b"label"), l)),
+        Err(ShapeError { expected, got }) => say_shape(expected, got),
     }
 }
 
 // Operation 8.
-pub fn say_connectivity(answer: Connectivity) {
+pub fn say_connectivity(answer: Result<f64, NotLive>) {
     match answer {
-        Connectivity::Density(density) => end(double(start(b"connectivity"), density)),
-        Connectivity::NotLive => say_refused(12),
+        Ok(density) => end(double(start(b"connectivity"), density)),
+        Err(NotLive) => say_refused(12),
     }
 }
 

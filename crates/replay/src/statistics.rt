@@ -2,7 +2,7 @@
 use crate::output::{Line, end, number, say, start};
 use crate::rows::doubles;
 use feature::MAX_DIM;
-use model::{MICROS, ReadOut};
+use model::{MICROS, TooShort};
 
 // The most coordinates of all centres together.
 pub const CENTRES: usize = 960;
@@ -21,14 +21,14 @@ fn one_each(line: Line, xs: [f64; MICROS], n: usize) -> Line {
 
 // n centres of dim coordinates, n weights and n radii.
 pub fn say_statistics(
-    answer: ReadOut,
+    answer: Result<(), TooShort>,
     n: usize,
     dim: usize,
     centres: [f64; CENTRES],
     weights: [f64; MICROS],
     radii: [f64; MICROS],
 ) {
-    let ReadOut::Written = answer else {
+    let Ok(()) = answer else {
         say(b"refused 10");
         return;
     };

@@ -35,7 +35,7 @@ fn inserts(stream: DbStream, values: &[f64], lengths: &[usize], numbers: &mut [u
         let r = s.try_insert(&values[at..end]);
         s = r.stream;
         let answer = r.answer;
-        numbers[i] = answer.number();
+        numbers[i] = model::number_of(answer);
         at = end;
         i += 1;
     }
@@ -56,7 +56,7 @@ pub fn dbstream_session(
     let opened = DbStream::new(settings);
     let stream = opened.stream;
     let answer = opened.answer;
-    let number = answer.number();
+    let number = model::number_of(answer);
     if number != 0 {
         return DbSession { number, stream };
     }

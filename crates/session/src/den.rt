@@ -35,7 +35,7 @@ fn inserts(stream: DenStream, values: &[f64], lengths: &[usize], numbers: &mut [
         let r = s.try_insert(&values[at..end]);
         s = r.stream;
         let answer = r.answer;
-        numbers[i] = answer.number();
+        numbers[i] = model::number_of(answer);
         at = end;
         i += 1;
     }
@@ -56,7 +56,7 @@ pub fn denstream_session(
     let opened = DenStream::new(settings);
     let stream = opened.stream;
     let answer = opened.answer;
-    let number = answer.number();
+    let number = model::number_of(answer);
     if number != 0 {
         return DenSession { number, stream };
     }

@@ -1,13 +1,9 @@
 -- Each opening and each insert is refused with document 01's number and values. Assumes nothing.
-use Rattle.std.specs.Prelude.{◌≡◌, Bool, true, false, cond, ◌≢◌, List, [], ◌∷◌, map, length, ◌==◌, refl, Float}
+use Rattle.std.specs.Prelude.{◌≡◌, Bool, true, false, cond, ◌≢◌, List, [], ◌∷◌, map, length, ◌==◌, refl, Float, Ok, Err}
 use Rattle.std.proofs.Common.{ap, ◌∙◌}
 use Rattle.std.specs.Float.Ieee.{lt}
-use Rattle.model.specs.declared.answers.Opening.{Opening}
-use Rattle.model.specs.declared.answers.Opening.TheVariants.{Open}
-use Rattle.model.specs.declared.answers.Insertion.{Insertion}
-use Rattle.model.specs.declared.answers.Insertion.TheVariants.{Done, Shape, ClockAtLimit, NoPlace}
 use Rattle.model.specs.Limits.{clock_limit}
-use Rattle.model.specs.Answers.{opening_number, insertion_number, is_done}
+use Rattle.model.specs.Answers.{opening_number, insertion_number, is_done, Insertion, Opening}
 use Rattle.model.specs.Questions.{first_no}
 use Rattle.model.specs.Numbers.{db_opening_no, den_opening_no, insertion_no, insertion_said}
 use Rattle.model.specs.Outcome.{Opened, Outcome}
@@ -17,6 +13,7 @@ use Rattle.model.specs.DbState as db
 use Rattle.model.specs.DenState as den
 use Rattle.model.specs.Dbstream.{dbstream}
 use Rattle.model.specs.Denstream.{denstream}
+use Rattle.model.specs.declared.answers.InsertError.TheVariants.{Shape, ClockAtLimit, NoPlace}
 
 -- what is said of the first no is the first no of what is said
 first_no_lem : {A B : Type 0} (f : A → B) (qs : List (Bool × A)) (a : A) → f (first_no qs a) ≡ first_no (map (λ (q : Bool × A). (q.0, f q.1)) qs) (f a)
@@ -37,7 +34,7 @@ unfolding insert_by
 insertion_said_lem {S} {P} {H} k s x o e =
     ap (λ (q : Outcome (State P H)). insertion_said q.answer) e
     ∙ first_no_lem insertion_said
-    (((length x == k.dim s.params), Shape (k.dim s.params) (length x)) ∷ (lt s.t clock_limit, ClockAtLimit) ∷ (has_place k s x, NoPlace) ∷ []) Done
+    (((length x == k.dim s.params), Err (Shape (k.dim s.params) (length x))) ∷ (lt s.t clock_limit, Err ClockAtLimit) ∷ (has_place k s x, Err NoPlace) ∷ []) (Ok tt)
 
 -- the three clauses of an insert, from the first: its answer a, v what becomes of s, r the stream that stands for it, came the one that came
 pub inserted_as :
@@ -54,7 +51,7 @@ opening_said :
     {S P H : Type 0} (k : Kind S P H) (p : S) (o : Opened (State P H)) → o ≡ open_of k p →
     opening_number o.answer ≡ first_no (map (λ (q : Bool × Opening). (q.0, opening_number q.1)) (k.questions p)) 0
 unfolding asked
-opening_said {S} {P} {H} k p o e = ap (λ (q : Opened (State P H)). opening_number q.answer) e ∙ first_no_lem opening_number (k.questions p) Open
+opening_said {S} {P} {H} k p o e = ap (λ (q : Opened (State P H)). opening_number q.answer) e ∙ first_no_lem opening_number (k.questions p) (Ok tt)
 
 pub db_opening_said :
     (p : db.Settings) (o : Opened db.State) → o ≡ open_of dbstream p →

@@ -1,14 +1,12 @@
 -- What holds of a stream of any kind: its tick, its insert, its labels. Assumes nothing.
-use Rattle.std.specs.Prelude.{◌≡◌, ℕ, Bool, true, false, cond, ◌≢◌, List, [], length, Float}
+use Rattle.std.specs.Prelude.{◌≡◌, ℕ, Bool, true, false, cond, ◌≢◌, List, [], length, Float, Ok}
 use Rattle.std.proofs.Math.Path.{refl, ap, ap₂, subst}
 use Rattle.std.proofs.Common.{sym, ◌∙◌}
 use Rattle.std.specs.Float.Ieee.{lt}
 use Rattle.float.specs.Rounded.{◌⊕◌, one}
 use Rattle.drift.specs.Monitor.{observe_of, Nearest}
-use Rattle.model.specs.declared.answers.Insertion.{Insertion}
-use Rattle.model.specs.declared.answers.Insertion.TheVariants.{Done}
 use Rattle.model.specs.Limits.{clock_limit}
-use Rattle.model.specs.Answers.{is_done}
+use Rattle.model.specs.Answers.{is_done, Insertion}
 use Rattle.model.specs.Questions.{insertion_asked}
 use Rattle.model.specs.Fading.{is_multiple}
 use Rattle.model.specs.Ticking.{Tick}
@@ -74,7 +72,7 @@ module _ {S P H : Type 0} (k : Kind S P H) where
     pub insert_cases :
         (Q : Outcome (State P H) → Type 0) →
         ((a : Insertion) → is_done a ≡ false → Q (record { answer = a; stream = s })) →
-        (lt s.t clock_limit ≡ true → place s x ≡ true → Q (record { answer = Done; stream = taken_of k s x })) →
+        (lt s.t clock_limit ≡ true → place s x ≡ true → Q (record { answer = Ok tt; stream = taken_of k s x })) →
         Q (insert_by k place s x)
     unfolding insert_by
     insert_cases Q refuse accept =
@@ -106,14 +104,14 @@ module _ {S P H : Type 0} (k : Kind S P H) where
 
   -- "a refused insert changes nothing"
   pub refused_nothing :
-      (place : State P H → List Float → Bool) (s : State P H) (x : List Float) → (insert_by k place s x).answer ≢ Done → (insert_by k place s x).stream ≡ s
+      (place : State P H → List Float → Bool) (s : State P H) (x : List Float) → (insert_by k place s x).answer ≢ Ok tt → (insert_by k place s x).stream ≡ s
   refused_nothing place s x =
-      insert_cases place s x (λ (r : Outcome (State P H)). r.answer ≢ Done → r.stream ≡ s) (λ a h q. refl) (λ l e q. absurd (q refl))
+      insert_cases place s x (λ (r : Outcome (State P H)). r.answer ≢ Ok tt → r.stream ≡ s) (λ a h q. refl) (λ l e q. absurd (q refl))
 
   -- ---- "Insert clears labels."
   pub insert_clears :
-      (place : State P H → List Float → Bool) (s : State P H) (x : List Float) → (insert_by k place s x).answer ≡ Done →
+      (place : State P H → List Float → Bool) (s : State P H) (x : List Float) → (insert_by k place s x).answer ≡ Ok tt →
       (insert_by k place s x).stream.labels ≡ []
   insert_clears place s x =
-      insert_cases place s x (λ (r : Outcome (State P H)). r.answer ≡ Done → r.stream.labels ≡ [])
+      insert_cases place s x (λ (r : Outcome (State P H)). r.answer ≡ Ok tt → r.stream.labels ≡ [])
       (λ a h q. never (sym h ∙ ap is_done q)) (λ l e q. tick_labels (taking s (k.placed s x)) (k.nearest_for s x))

@@ -1,5 +1,5 @@
 -- The questions of an insert, opened here and nowhere else; and what follows for an answer. Assumes nothing.
-use Rattle.std.specs.Prelude.{◌≡◌, ℕ, ◌-◌, ◌≤◌, Bool, true, false, cond, ◌≢◌, List, [], ◌∷◌, ◌++◌, length, take, replicate, ◌==◌, nat_eq, refl, Float}
+use Rattle.std.specs.Prelude.{◌≡◌, ℕ, ◌-◌, ◌≤◌, Bool, true, false, cond, ◌≢◌, List, [], ◌∷◌, ◌++◌, length, take, replicate, ◌==◌, nat_eq, refl, Float, Ok, Err}
 use Rattle.std.proofs.Common.{arith, sym, ap, ap₂, ◌∙◌, true≢false, ne_eqb, eqb-true, take_all}
 use Rattle.std.proofs.Math.Decide.{ℕ_discrete}
 use Rattle.std.proofs.Math.Logic.{by_cases}
@@ -7,12 +7,11 @@ use Rattle.std.specs.Float.Ieee.{lt}
 use Rattle.std.proofs.Math.Seq.{take-append_seam}
 use Rattle.float.specs.Rounded.{nought}
 use Rattle.feature.specs.Feature.{max_dim}
-use Rattle.model.specs.declared.answers.Insertion.{Insertion}
-use Rattle.model.specs.declared.answers.Insertion.TheVariants.{Done, Shape, ClockAtLimit, NoPlace}
 use Rattle.model.specs.Limits.{clock_limit}
-use Rattle.model.specs.Answers.{insertion_number, is_done}
+use Rattle.model.specs.Answers.{insertion_number, is_done, Insertion}
 use Rattle.model.specs.Questions.{first_no, insertion_asked}
 use Rattle.model.specs.Point.{padded_of}
+use Rattle.model.specs.declared.answers.InsertError.TheVariants.{Shape, ClockAtLimit, NoPlace}
 
 pub never : {A : Type 0} → false ≡ true → A
 never e = absurd (true≢false (sym e))
@@ -30,21 +29,21 @@ module _ (dim got : ℕ) (t : Float) where
   -- refused; or taken, with dim coordinates, below the clock's limit and with a place
   pub asked_cases :
       (place : Bool) (P : Insertion → Type 0) → ((a : Insertion) → is_done a ≡ false → P a) →
-      (got ≡ dim → lt t clock_limit ≡ true → place ≡ true → P Done) → P (insertion_asked dim got t place)
+      (got ≡ dim → lt t clock_limit ≡ true → place ≡ true → P (Ok tt)) → P (insertion_asked dim got t place)
   asked_cases place P refuse accept = go (got == dim) (lt t clock_limit) place refl refl refl
     where
-      go : (b c d : Bool) → (got == dim) ≡ b → lt t clock_limit ≡ c → place ≡ d → P (first_no ((b, Shape dim got) ∷ (c, ClockAtLimit) ∷ (d, NoPlace) ∷ []) Done)
-      go false c d e f g = refuse (Shape dim got) refl
-      go true false d e f g = refuse ClockAtLimit refl
-      go true true false e f g = refuse NoPlace refl
+      go : (b c d : Bool) → (got == dim) ≡ b → lt t clock_limit ≡ c → place ≡ d → P (first_no ((b, Err (Shape dim got)) ∷ (c, Err ClockAtLimit) ∷ (d, Err NoPlace) ∷ []) (Ok tt))
+      go false c d e f g = refuse (Err (Shape dim got)) refl
+      go true false d e f g = refuse (Err ClockAtLimit) refl
+      go true true false e f g = refuse (Err NoPlace) refl
       go true true true e f g = accept (eqb-true got dim e) f g
 
   -- a point of another length has the same answer with a place or without
   other_length : (p q : Bool) → got ≢ dim → insertion_asked dim got t p ≡ insertion_asked dim got t q
   other_length p q h =
       let e : nat_eq got dim ≡ false = ne_eqb got dim h in
-      ap (λ (b : Bool). cond b (cond (lt t clock_limit) (cond p Done NoPlace) ClockAtLimit) (Shape dim got)) e
-      ∙ sym (ap (λ (b : Bool). cond b (cond (lt t clock_limit) (cond q Done NoPlace) ClockAtLimit) (Shape dim got)) e)
+      ap (λ (b : Bool). cond b (cond (lt t clock_limit) (cond p (Ok tt) (Err NoPlace)) (Err ClockAtLimit)) (Err (Shape dim got))) e
+      ∙ sym (ap (λ (b : Bool). cond b (cond (lt t clock_limit) (cond q (Ok tt) (Err NoPlace)) (Err ClockAtLimit)) (Err (Shape dim got))) e)
 
   pub same_answer : (p q : Bool) → (got ≡ dim → p ≡ q) → insertion_asked dim got t p ≡ insertion_asked dim got t q
   same_answer p q same = by_cases (ℕ_discrete got dim) (λ h. ap (insertion_asked dim got t) (same h)) (other_length p q)

@@ -1,10 +1,8 @@
 -- The questions of an opening: where a stream opens, each was answered with yes; and what an opening gives. Assumes nothing.
-use Rattle.std.specs.Prelude.{◌≡◌, ℕ, ◌≤◌, min, Bool, true, false, cond, ◌&&◌, List, [], ◌∷◌, ◌++◌, nat_le, refl}
+use Rattle.std.specs.Prelude.{◌≡◌, ℕ, ◌≤◌, min, Bool, true, false, cond, ◌&&◌, List, [], ◌∷◌, ◌++◌, nat_le, refl, Ok}
 use Rattle.std.proofs.Common.{arith, sym, ap, ap₂, ◌∙◌, leb-true}
 use Rattle.feature.specs.Feature.{max_dim}
-use Rattle.model.specs.declared.answers.Opening.{Opening}
-use Rattle.model.specs.declared.answers.Opening.TheVariants.{Open}
-use Rattle.model.specs.Answers.{opening_number, is_open}
+use Rattle.model.specs.Answers.{opening_number, is_open, Opening}
 use Rattle.model.specs.Questions.{first_no, dim_in_range}
 use Rattle.model.specs.Outcome.{Opened}
 use Rattle.model.specs.Laws.Insert.{never}
@@ -19,12 +17,12 @@ abbrev pub AllYes : List (Bool × Opening) → Type 0
 AllYes [] = Unit {0}
 AllYes (q ∷ qs) = (q.0 ≡ true) × AllYes qs
 
-pub all_yes : (qs : List (Bool × Opening)) → Refusals qs → is_open (first_no qs Open) ≡ true → AllYes qs
+pub all_yes : (qs : List (Bool × Opening)) → Refusals qs → is_open (first_no qs (Ok tt)) ≡ true → AllYes qs
 all_yes [] r h = tt
 all_yes (q ∷ qs) r h = go q.0 refl h (all_yes qs r.1)
   where
     go :
-        (b : Bool) → q.0 ≡ b → is_open (cond b (first_no qs Open) q.1) ≡ true → (is_open (first_no qs Open) ≡ true → AllYes qs) →
+        (b : Bool) → q.0 ≡ b → is_open (cond b (first_no qs (Ok tt)) q.1) ≡ true → (is_open (first_no qs (Ok tt)) ≡ true → AllYes qs) →
         (q.0 ≡ true) × AllYes qs
     go true e k ih = (e, ih k)
     go false e k ih = never (sym r.0 ∙ k)
@@ -42,30 +40,30 @@ uncut dim e =
 -- ---- one question more: asked only where the others were all answered with yes
 module _ (last : Bool × Opening) where
   abbrev more : List (Bool × Opening) → Opening
-  more qs = first_no (qs ++ last ∷ []) Open
+  more qs = first_no (qs ++ last ∷ []) (Ok tt)
 
   abbrev asking : Opening → Opening
-  asking a = cond (is_open a) (cond last.0 Open last.1) a
+  asking a = cond (is_open a) (cond last.0 (Ok tt) last.1) a
 
-  asked_more : (qs : List (Bool × Opening)) → Refusals qs → asking (first_no qs Open) ≡ more qs
+  asked_more : (qs : List (Bool × Opening)) → Refusals qs → asking (first_no qs (Ok tt)) ≡ more qs
   asked_more [] r = refl
   asked_more (q ∷ qs) r = go q.0 (asked_more qs r.1)
     where
-      go : (b : Bool) → asking (first_no qs Open) ≡ more qs → asking (cond b (first_no qs Open) q.1) ≡ cond b (more qs) q.1
+      go : (b : Bool) → asking (first_no qs (Ok tt)) ≡ more qs → asking (cond b (first_no qs (Ok tt)) q.1) ≡ cond b (more qs) q.1
       go true ih = ih
-      go false ih = ap (λ (c : Bool). cond c (cond last.0 Open last.1) q.1) r.0
+      go false ih = ap (λ (c : Bool). cond c (cond last.0 (Ok tt) last.1) q.1) r.0
 
   -- a is the others' answer
   pub one_more :
       (qs : List (Bool × Opening)) →
       Refusals qs →
       (a : Opening) (others this : Bool) →
-      a ≡ first_no qs Open →
+      a ≡ first_no qs (Ok tt) →
       is_open a ≡ others →
       last.0 ≡ this →
-      cond others (cond this Open last.1) a ≡ more qs
+      cond others (cond this (Ok tt) last.1) a ≡ more qs
   one_more qs r a others this e eo et =
-      ap₂ (λ (o t : Bool). cond o (cond t Open last.1) a) (sym eo) (sym et) ∙ ap asking e ∙ asked_more qs r
+      ap₂ (λ (o t : Bool). cond o (cond t (Ok tt) last.1) a) (sym eo) (sym et) ∙ ap asking e ∙ asked_more qs r
 
 -- ---- an opening of a stream of any kind
 module _ {S P H : Type 0} (k : Kind S P H) (p : S) where

@@ -1,15 +1,11 @@
 -- The text of `picture` is never cut. Assumes nothing.
-use Rattle.std.specs.Prelude.{ℕ, ◌+◌, ◌%◌, ◌^◌, ◌≤◌, ◌<◌, min, List, [], ◌∷◌, eqb, negsuc, length, replicate, Float, None, Some}
+use Rattle.std.specs.Prelude.{ℕ, ◌+◌, ◌%◌, ◌^◌, ◌≤◌, ◌<◌, min, List, [], ◌∷◌, eqb, negsuc, length, replicate, Float, None, Some, Ok, Err}
 use Rattle.std.proofs.Common.{arith}
 use Rattle.float.specs.Rounded.{◌⊘◌}
 use Rattle.sqrt.specs.Root.{sqrt_of}
 use Rattle.adwin.specs.Window.{update_of}
 use Rattle.drift.specs.Monitor.{Monitor, observe_of, report_of, Nearest}
-use Rattle.model.specs.declared.answers.Opening.{Opening}
-use Rattle.model.specs.declared.answers.Opening.TheVariants.{Open, Dim, Radius, Lambda, Share, Weight, BetaMu}
-use Rattle.model.specs.declared.answers.Insertion.{Insertion}
-use Rattle.model.specs.declared.answers.Insertion.TheVariants.{Done, Shape, ClockAtLimit, NoPlace}
-use Rattle.model.specs.Answers.{opening_number, is_open, insertion_number, is_done}
+use Rattle.model.specs.Answers.{opening_number, is_open, insertion_number, is_done, Insertion, Opening}
 use Rattle.model.specs.Outcome.{Opened, Outcome}
 use Rattle.model.specs.Limits.{micros_most}
 use Rattle.model.specs.Stream.{tick_of, taken_of, fresh, insert_by}
@@ -22,6 +18,8 @@ use Rattle.input_session.specs.Input.{settings_in, points_in, is_whole}
 use Rattle.input_session.specs.Session.{insert_all, Ran, ran, inserted_ran, opened_ran, ran_of}
 use Rattle.picture_lines.specs.Laws.Sizes.{page_within}
 use Rattle.picture_text.specs.Picture.{figures_of, drawn_of, picture_text}
+use Rattle.model.specs.declared.answers.OpenError.TheVariants.{Dim, Radius, Lambda, Share, Weight, BetaMu}
+use Rattle.model.specs.declared.answers.InsertError.TheVariants.{Shape, ClockAtLimit, NoPlace}
 
 -- the alarms are a number of 64 bits: "The count is a u64"
 abbrev Counted : State → Type 0
@@ -53,19 +51,19 @@ is_opened p =
 
 -- and so is the number of a refusal
 opening_number_lem : (a : Opening) → opening_number a < 2 ^ 64
-opening_number_lem Open = omega arith
-opening_number_lem Dim = omega arith
-opening_number_lem Radius = omega arith
-opening_number_lem Lambda = omega arith
-opening_number_lem Share = omega arith
-opening_number_lem Weight = omega arith
-opening_number_lem BetaMu = omega arith
+opening_number_lem (Ok _) = omega arith
+opening_number_lem (Err Dim) = omega arith
+opening_number_lem (Err Radius) = omega arith
+opening_number_lem (Err Lambda) = omega arith
+opening_number_lem (Err Share) = omega arith
+opening_number_lem (Err Weight) = omega arith
+opening_number_lem (Err BetaMu) = omega arith
 
 insertion_number_lem : (a : Insertion) → insertion_number a < 2 ^ 64
-insertion_number_lem Done = omega arith
-insertion_number_lem (Shape expected got) = omega arith
-insertion_number_lem ClockAtLimit = omega arith
-insertion_number_lem NoPlace = omega arith
+insertion_number_lem (Ok _) = omega arith
+insertion_number_lem (Err (Shape expected got)) = omega arith
+insertion_number_lem (Err ClockAtLimit) = omega arith
+insertion_number_lem (Err NoPlace) = omega arith
 
 record Numbered (r : Ran) : Type 0 where
   number : r.number < 2 ^ 64

@@ -1,15 +1,14 @@
 -- A whole run by its three answers, of any stream. Assumes nothing.
-use Rattle.std.specs.Prelude.{ℕ, suc, ◌≤◌, ◌<◌, ◌≡◌, refl, Bool, true, false, cond, List, [], ◌∷◌, ◌++◌, map, eqb, leb, Float, length, drop}
+use Rattle.std.specs.Prelude.{ℕ, suc, ◌≤◌, ◌<◌, ◌≡◌, refl, Bool, true, false, cond, List, [], ◌∷◌, ◌++◌, map, eqb, leb, Float, length, drop, Ok, Err}
 use Rattle.std.proofs.Common.{arith, sym, ap, ◌∙◌, true≢false, eq-eqb, ne_eqb, eqb-true, le-leb}
 use Rattle.std.proofs.lemmas.Bool.{lt-leb}
 use Rattle.lists.specs.Laws.Maps.{map_length}
-use Rattle.model.specs.declared.answers.Opening.{Opening}
-use Rattle.model.specs.declared.answers.Opening.TheVariants.{Open, Dim, Radius, Lambda, Share, Weight, BetaMu}
-use Rattle.model.specs.Answers.{opening_number, insertion_number}
+use Rattle.model.specs.Answers.{opening_number, insertion_number, Opening}
 use Rattle.model.specs.Outcome.{Opened, Outcome, opened}
 use Rattle.model.specs.Run.{run_of, answers_of}
 use Rattle.session.specs.Points.{points_of}
 use Rattle.session.specs.Whole.{Session, session_of}
+use Rattle.model.specs.declared.answers.OpenError.TheVariants.{Dim, Radius, Lambda, Share, Weight, BetaMu}
 
 answers_length :
     {S : Type 0} (insert : S → List Float → Outcome S) (s : S) (points : List (List Float)) → length (answers_of insert s points) ≡ length points
@@ -102,21 +101,21 @@ module _
           t ≡ cluster s → Told (answer 0 numbers t)
       run_told s t numbers h e c = rw (c, ← is) (ran insert cluster o lengths values lent (sym number ∙ opens) s numbers h e.0 e.1)
 
-is_open : (a : Opening) → opening_number a ≡ 0 → a ≡ Open
-is_open Open e = refl
-is_open Dim e = absurd (omega arith)
-is_open Radius e = absurd (omega arith)
-is_open Lambda e = absurd (omega arith)
-is_open Share e = absurd (omega arith)
-is_open Weight e = absurd (omega arith)
-is_open BetaMu e = absurd (omega arith)
+is_open : (a : Opening) → opening_number a ≡ 0 → a ≡ Ok tt
+is_open (Ok _) e = refl
+is_open (Err Dim) e = absurd (omega arith)
+is_open (Err Radius) e = absurd (omega arith)
+is_open (Err Lambda) e = absurd (omega arith)
+is_open (Err Share) e = absurd (omega arith)
+is_open (Err Weight) e = absurd (omega arith)
+is_open (Err BetaMu) e = absurd (omega arith)
 
 -- so it is the run from the fresh stream
 pub run_by :
     {S : Type 0} (insert : S → List Float → Outcome S) (cluster : S → S) (a : Opening) (fresh unopened : S) (lengths : List ℕ) (values : List Float)
     (lent : List ℕ) (r : Session S) →
     r ≡ session_of insert cluster (opened a fresh unopened) (points_of lengths values) lent → r.number ≡ 0 →
-    (a ≡ Open) × (r.stream ≡ cluster (run_of insert fresh (points_of lengths values)))
+    (a ≡ Ok tt) × (r.stream ≡ cluster (run_of insert fresh (points_of lengths values)))
 run_by {S} insert cluster a fresh unopened lengths values lent r e z =
     let w = not_refused insert cluster (opened a fresh unopened) lengths values lent (sym (ap (λ (q : Session S). q.number) e) ∙ z) in
     let o = is_open a w.0 in (

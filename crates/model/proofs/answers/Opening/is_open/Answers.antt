@@ -1,6 +1,0 @@
--- `Opening::is_open` meets its contract. Assumes nothing.
-use Rattle.std.proofs.Common.{ℕ, eqb, ap}
-use Rattle.model.proofs.answers.Opening.is_open.Goals as goal
-
-pub returns : goal.returns
-returns c = ap (λ (n : ℕ). eqb n 0) c.number.ensures
