@@ -1,20 +1,15 @@
 // The distance between two points, or a point and a centre.
-ghost use Rattle.std.specs.Prelude.{◌≡◌, take};
+ghost use Rattle.std.specs.Prelude.{◌≡◌};
 ghost use Rattle.feature.specs.Distance.{sq_dist};
 
-use crate::MAX_DIM;
-
-// The plain sum of (a - b) * (a - b) over the first dim coordinates, by index from 0.
-pub fn sq_euclidean(a: [f64; MAX_DIM], b: [f64; MAX_DIM], dim: usize) -> f64
-    ensures { result ≡ sq_dist (take dim a) (take dim b) }
+// The plain sum of (x - y) * (x - y), by index from 0, as far as both go.
+pub fn sq_euclidean(a: &[f64], b: &[f64]) -> f64
+    ensures { result ≡ sq_dist a.now b.now }
 {
-    let n = lists::cut(dim, MAX_DIM);
     let mut s = 0.0;
-    let mut i: usize = 0;
-    while i < n {
-        let d = a[i] - b[i];
+    for (x, y) in a.iter().zip(b) {
+        let d = x - y;
         s = s + d * d;
-        i += 1;
     }
     s
 }

@@ -1,5 +1,5 @@
 // The spherical feature: one sum of squared deviations for all coordinates.
-ghost use Rattle.std.specs.Prelude.{◌≡◌, take};
+ghost use Rattle.std.specs.Prelude.{◌≡◌};
 ghost use Rattle.feature.specs.Feature.{max_dim, empty, pushed, decayed};
 
 use crate::MAX_DIM;
@@ -24,22 +24,20 @@ impl Spherical {
         }
     }
 
-    // The point of x's first dim coordinates joins with weight 1.
-    pub fn push(mut self, x: [f64; MAX_DIM], dim: usize) -> Self
-        ensures { result ≡ pushed self (take dim x) }
+    // The point joins with weight 1.
+    pub fn push(mut self, x: &[f64]) -> Self
+        ensures { result ≡ pushed self x.now }
     {
-        let k = lists::cut(dim, MAX_DIM);
+        let k = x.len().min(MAX_DIM);
         let grown = self.w + 1.0;
         let factor = 1.0 / grown;
         let c = 1.0 * (1.0 - 1.0 / grown);
         let mut n = 0.0;
-        let mut i: usize = 0;
-        while i < k {
+        for i in 0..k {
             let m = self.mean[i];
             let d = x[i] - m;
             n = n + d * d;
             self.mean[i] = m + factor * d;
-            i += 1;
         }
         self.w = grown;
         self.ssd = self.ssd + c * n;
@@ -56,22 +54,22 @@ impl Spherical {
     }
 
     // How many points there are, as far as they have not faded.
-    pub fn weight(self) -> f64
-        ensures { result ≡ self.w }
+    pub fn weight(&self) -> f64
+        ensures { result ≡ self.now.w }
     {
         self.w
     }
 
     // The centre of the points.
-    pub fn mean(self) -> [f64; MAX_DIM]
-        ensures { result ≡ self.mean }
+    pub fn mean(&self) -> [f64; MAX_DIM]
+        ensures { result ≡ self.now.mean }
     {
         self.mean
     }
 
     // The sum of squared deviations from the mean.
-    pub fn ssd(self) -> f64
-        ensures { result ≡ self.ssd }
+    pub fn ssd(&self) -> f64
+        ensures { result ≡ self.now.ssd }
     {
         self.ssd
     }

@@ -1,11 +1,11 @@
 // What both streams keep of a micro-cluster, and do to it.
-ghost use Rattle.std.specs.Prelude.{◌≡◌, take};
+ghost use Rattle.std.specs.Prelude.{◌≡◌};
 ghost use Rattle.float.specs.Rounded.{nought};
 ghost use Rattle.feature.specs.Feature.{max_dim, empty};
 ghost use Rattle.model.specs.Body.{birth, absorbing, faded_weight, radius_of};
 
 use crate::fading::faded;
-use feature::{MAX_DIM, Spherical};
+use feature::Spherical;
 
 // Its feature, and the clock at its latest birth or absorption.
 #[derive(Clone, Copy)]
@@ -26,40 +26,38 @@ impl Body {
     }
 
     // Of one point.
-    pub fn birth(x: [f64; MAX_DIM], dim: usize, t: f64) -> Body
-        ensures { result ≡ birth max_dim t (take dim x) }
+    pub fn birth(x: &[f64], t: f64) -> Body
+        ensures { result ≡ birth max_dim t x.now }
     {
-        let none = Spherical::new();
         Body {
-            cf: none.push(x, dim),
+            cf: Spherical::new().push(x),
             last: t,
         }
     }
 
     // Faded to t, with the point.
-    pub fn absorbing(self, x: [f64; MAX_DIM], dim: usize, lambda: f64, t: f64) -> Body
-        ensures { result ≡ absorbing lambda t (take dim x) self }
+    pub fn absorbing(self, x: &[f64], lambda: f64, t: f64) -> Body
+        ensures { result ≡ absorbing lambda t x.now self }
     {
-        let cf = self.cf;
-        let old = cf.decay(feature::fade(lambda, t, self.last));
+        let faded = self.cf.decay(feature::fade(lambda, t, self.last));
         Body {
-            cf: old.push(x, dim),
+            cf: faded.push(x),
             last: t,
         }
     }
 
     // The weight, faded to t.
-    pub fn faded_weight(self, lambda: f64, t: f64) -> f64
-        ensures { result ≡ faded_weight lambda t self }
+    pub fn faded_weight(&self, lambda: f64, t: f64) -> f64
+        ensures { result ≡ faded_weight lambda t self.now }
     {
         faded(self.cf.w, lambda, t, self.last)
     }
 
     // The root of the mean squared deviation; 0 without a weight.
-    pub fn radius(self) -> f64
-        ensures { result ≡ radius_of self }
+    pub fn radius(&self) -> f64
+        ensures { result ≡ radius_of self.now }
     {
-        let cf = self.cf;
+        let cf = &self.cf;
         if 0.0 < cf.w {
             sqrt::sqrt(cf.ssd / cf.w)
         } else {

@@ -10,15 +10,15 @@ use Rattle.lists.specs.Laws.Rest.{rest_start, rest_step, rest_end}
 use Rattle.lists.specs.Rest.{rest}
 use Rattle.model.specs.Nearest.{near_at, nearest_from, nearest_of}
 use Rattle.readout.specs.declared.distances.Found.{Found}
-use Rattle.readout.specs.declared.distances.Found.TheVariants.{Nothing, At}
+use Rattle.std.specs.Prelude.{Option, Some, None}
 use Rattle.readout.specs.Found.{found_of, nearest_among}
 
 -- the nearest so far has this place and distance; what is left starts at i
-unfoldable pub found_from : (place : ℕ) (dist : Float) (i : ℕ) → List Float → Found
+unfoldable pub found_from : (place : ℕ) (dist : Float) (i : ℕ) → List Float → Option Found
 unfolding nearest_from
 found_from place dist i l = found_of (some (nearest_from (λ (d : Float). d) (near_at (λ (d : Float). d) place dist) i l))
 
-pub found_none : (l : List Float) (n : ℕ) → n ≡ 0 → nearest_among (take n l) ≡ Nothing
+pub found_none : (l : List Float) (n : ℕ) → n ≡ 0 → nearest_among (take n l) ≡ None
 unfolding nearest_among nearest_of
 found_none l n e = ap (λ (k : ℕ). nearest_among (take k l)) e
 
@@ -51,6 +51,6 @@ module _ (n : ℕ) (l : List Float) (k : n ≤ length l) where
     unfolding found_from
     found_keep h t = turned false t h
 
-    pub found_end : n ≤ i → found_from place dist i (rest n i l) ≡ At place dist
+    pub found_end : n ≤ i → found_from place dist i (rest n i l) ≡ Some (record { place = place; dist = dist })
     unfolding found_from nearest_from
     found_end h = rw (rest_end n i l h)

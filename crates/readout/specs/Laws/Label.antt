@@ -1,5 +1,6 @@
 -- A label by distances that were measured before is document 01's. Assumes nothing.
 use Rattle.std.specs.Prelude.{ℕ, ◌≡◌, refl, List, map, eqb, ℤ, negsuc, Float}
+use Rattle.std.specs.Prelude as prelude
 use Rattle.std.proofs.Math.Path.{ap, ap₂}
 use Rattle.std.proofs.Common.{◌∙◌}
 use Rattle.std.proofs.Math.Bool.{cond}
@@ -26,7 +27,7 @@ module _ (radius2 : Float) (labels : List ℤ) where
       label_among radius2 distances labels ≡ label_for radius2 bodies labels x
   unfolding label_among label_for
   label_measured bodies x distances e =
-      ap₂ (λ (n : ℕ) (o : Found). cond (eqb (length labels) n) (label_found radius2 labels o) (negsuc 0))
+      ap₂ (λ (n : ℕ) (o : prelude.Option Found). cond (eqb (length labels) n) (label_found radius2 labels o) (negsuc 0))
       (ap length e ∙ map_length (distance_to x) bodies)
       (nearest_measured (distance_to x) bodies distances e)
       ∙ ap (λ (z : ℤ). cond (eqb (length labels) (length bodies)) z (negsuc 0)) (label_found_lem (nearest_of (distance_to x) bodies))

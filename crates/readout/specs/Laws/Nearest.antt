@@ -2,14 +2,13 @@
 use Prim.Native.Nat.{ℕ, suc, ◌+◌, ◌<◌}
 use Rattle.std.proofs.Math.Path.{◌≡◌, refl, ap, subst}
 use Rattle.std.proofs.Common.{sym, ◌∙◌}
-use Rattle.std.specs.Prelude.{Bool, true, false, cond, Float, length}
+use Rattle.std.specs.Prelude.{Bool, true, false, cond, Float, length, Some, None}
 use mathlib.Core.List.{List, [], ◌∷◌, map}
 use Rattle.std.proofs.Math.Option.{Option, none, some}
 use native.Mathlib.Omega.{arith}
 use Rattle.std.specs.Float.Ieee.{lt}
 use Rattle.std.proofs.Math.ListN.{get_or}
 use Rattle.model.specs.Nearest.{Near, near_at, nearer, nearest_from, nearest_of}
-use Rattle.readout.specs.declared.distances.Found.TheVariants.{Nothing, At}
 use Rattle.readout.specs.Found.{found_of, nearest_among}
 
 -- one of a list, with its element sent through f
@@ -36,7 +35,7 @@ module _ {A B : Type 0} (distance : B → Float) (f : A → B) where
   pub found_map : (l : List A) → found_of (nearest_of distance (map f l)) ≡ found_of (nearest_of (λ (a : A). distance (f a)) l)
   unfolding nearest_of
   found_map [] = refl
-  found_map (a ∷ l) = ap (λ (b : Near B). At b.place b.dist) (from_map (near_at through 0 a) 1 l)
+  found_map (a ∷ l) = ap (λ (b : Near B). Some (record { place = b.place; dist = b.dist })) (from_map (near_at through 0 a) 1 l)
 
 module _ {A : Type 0} (distance : A → Float) where
   pub nearest_measured : (l : List A) (distances : List Float) → distances ≡ map distance l → nearest_among distances ≡ found_of (nearest_of distance l)
@@ -78,7 +77,7 @@ module _ {A : Type 0} (distance : A → Float) where
       (from_stands (near_at distance 0 m) 1 ms (m ∷ ms) (omega arith, λ z. refl) (omega arith)
       (λ q hq z. ap (λ (k : ℕ). get_or (m ∷ ms) k z) (let u : 1 + q ≡ suc q = omega arith in u)))
 
-  found_some : (o : Option (Near A)) (p : ℕ) (d : Float) → found_of o ≡ At p d → (m : A) × (o ≡ some (record { place = p; micro = m; dist = d }))
+  found_some : (o : Option (Near A)) (p : ℕ) (d : Float) → found_of o ≡ Some (record { place = p; dist = d }) → (m : A) × (o ≡ some (record { place = p; micro = m; dist = d }))
   found_some none p d e = let z : ◌≡◌ {A = ℕ} 0 1 = cc in absurd (omega arith)
   found_some (some b) p d e = (b.micro, let u : b.place ≡ p = cc in let v : b.dist ≡ d = cc in rw (u, v))
 
@@ -88,21 +87,21 @@ module _ {A : Type 0} (distance : A → Float) where
     pub is : (z : A) → nearest_of distance l ≡ some (record { place = place; micro = get_or l place z; dist = dist })
 
   -- a place found is the nearest one's
-  pub found_at : (l : List A) (place : ℕ) (dist : Float) → found_of (nearest_of distance l) ≡ At place dist → FoundAt l place dist
+  pub found_at : (l : List A) (place : ℕ) (dist : Float) → found_of (nearest_of distance l) ≡ Some (record { place = place; dist = dist }) → FoundAt l place dist
   found_at l place dist e =
       let w = found_some (nearest_of distance l) place dist e in
       let q = nearest_stands l (record { place = place; micro = w.0; dist = dist }) w.1 in
       record { low = q.0; is = λ z. w.1 ∙ ap (λ (m : A). some (record { place = place; micro = m; dist = dist })) (sym (q.1 z)) }
 
   -- nothing is found where there is none
-  pub found_nothing : (l : List A) → found_of (nearest_of distance l) ≡ Nothing → nearest_of distance l ≡ none
+  pub found_nothing : (l : List A) → found_of (nearest_of distance l) ≡ None → nearest_of distance l ≡ none
   found_nothing l e = go (nearest_of distance l) e
     where
-      go : (o : Option (Near A)) → found_of o ≡ Nothing → o ≡ none
+      go : (o : Option (Near A)) → found_of o ≡ None → o ≡ none
       go none e = refl
       go (some b) e = let z : ◌≡◌ {A = ℕ} 0 1 = cc in absurd (omega arith)
 
 -- a place found is one of the list
-pub nearest_low : (l : List Float) (place : ℕ) (dist : Float) → nearest_among l ≡ At place dist → place < length l
+pub nearest_low : (l : List Float) (place : ℕ) (dist : Float) → nearest_among l ≡ Some (record { place = place; dist = dist }) → place < length l
 unfolding nearest_among
 nearest_low l place dist e = (found_at (λ (d : Float). d) l place dist e).low

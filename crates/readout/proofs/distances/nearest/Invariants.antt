@@ -1,13 +1,8 @@
-use Prim.Native.Nat.{◌-◌, ◌≤◌}
-use mathlib.Core.Path.{◌≡◌}
-use lib.ListN.{take}
+use Rattle.std.proofs.Common.{◌≡◌, length}
 use Rattle.lists.specs.Rest.{rest}
 use Rattle.readout.specs.Found.{nearest_among}
 use Rattle.readout.proofs.Search.{found_from}
 use Rattle.readout.proofs.distances.nearest.Given as goal
 
-abbrev pub invariant-loop-i : goal.invariant-loop-i
-invariant-loop-i l = (l.i ≤ l.end) × (found_from l.place l.dist l.i (rest l.end l.i l.distances) ≡ nearest_among (take l.n l.distances))
-
-abbrev pub decreases-loop-i : goal.decreases-loop-i
-decreases-loop-i l = l.end - l.i
+abbrev pub invariant-loop-place : goal.invariant-loop-place
+invariant-loop-place l = found_from l.found.place l.found.dist l.place (rest (length l.distances) l.place l.distances) ≡ nearest_among l.distances

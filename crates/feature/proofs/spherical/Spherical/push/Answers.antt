@@ -1,53 +1,48 @@
 -- `Spherical::push` meets its contract. Assumes nothing.
-use Prim.Native.Nat.{◌≤◌, ◌<◌}
-use mathlib.Core.Path.{◌≡◌, refl, sym, ap, ◌∙◌}
-use mathlib.Core.List.{List}
-use native.Mathlib.Omega.{arith}
-use lib.Ieee.{Float}
-use lib.ListN.{length, take, length-set}
-use Rattle.lists.specs.Laws.Rest.{cut_start}
-use Rattle.feature.specs.Distance.{sq_dist}
+use Rattle.std.proofs.Common.{rules, refl, sym, ap, ◌∙◌, ◌≡◌, ◌<◌, ◌≤◌, ◌∷◌, arith, length, length-set, min, List, Float}
+use Rattle.lists.specs.Laws.Rest.{rest_start}
+use Rattle.feature.specs.Distance.{sum_from, sq_dist}
 use Rattle.feature.specs.Feature.{moved}
-use Rattle.feature.specs.Laws.Turns.{moved_step, gaps_step, moved_end, gaps_end}
-use borrow.Author.Rules.{rules}
+use Rattle.feature.specs.Laws.Turns.{moved_step, gaps_step, moved_end, gaps_end, moved_cut, sum_cut}
 use Rattle.feature.proofs.spherical.Spherical.push.Goals as goal
 
 pub loop-i-init : goal.loop-i-init
 loop-i-init c =
-    let a = c.args in
-    let e = cut_start c.cut-k.result a.dim 15 a.x c.cut-k.ensures (omega arith) in (
-      search rules,
-      c.well_formed.0.1.1.1.0.1.0.1,
+    let m = c.args.self.mean in
+    let x = c.args.x.now in
+    let k = c.min-k.result in
+    let lm : length m ≡ 15 = search rules in
+    let h : k ≡ min (length x) (length m) = rw lm c.min-k.ensures in (
+      lm,
       refl,
       refl,
-      ap (moved _ a.self.mean) e,
-      ap (λ (l : List Float). sq_dist l a.self.mean) e,
+      ap (moved _ m) (rest_start k x) ∙ moved_cut _ k m x h,
+      ap (λ (l : List Float). sq_dist l m) (rest_start k x) ∙ sum_cut _ k x m h,
     )
 
 pub loop-i-preserved : goal.loop-i-preserved
 loop-i-preserved c =
-    let a = c.args in
-    let n = c.cut-k.result in
-    let q = c.loop-i.invariant in
-    let h : c.loop-i.i < n = omega arith in
-    let lm : n ≤ length c.loop-i.self.mean = omega arith in
-    let lx : n ≤ length a.x = omega arith in (
-      search rules,
-      simp length-set q.1,
+    let s = c.loop-i in
+    let x = c.args.x.now in
+    let n = c.min-k.result in
+    let q = s.invariant in
+    let h : s.i < n = search rules in
+    let lm : n ≤ length s.self.mean = omega arith in
+    let lx : n ≤ length x = omega arith in (
+      simp length-set q.0,
+      q.1,
       q.2,
-      q.3,
-      moved_step n c.loop-i.i c.loop-i.self.mean a.x h lm lx _ _ refl ∙ q.4,
-      gaps_step n c.loop-i.i c.loop-i.self.mean a.x h lm lx _ c.loop-i.n ∙ q.5,
+      moved_step n s.i s.self.mean x h lm lx _ _ refl ∙ q.3,
+      gaps_step n s.i s.self.mean x h lm lx _ s.n ∙ q.4,
     )
 
 pub returns : goal.returns
 returns c =
-    let a = c.args in
-    let n = c.cut-k.result in
-    let q = c.loop-i.invariant in
-    let h : n ≤ c.loop-i.i = omega arith in
-    let e : c.loop-i.self.mean ≡ moved _ a.self.mean (take a.dim a.x) =
-    sym (moved_end n c.loop-i.i c.loop-i.self.mean a.x h _) ∙ q.4 in
-    let g : c.loop-i.n ≡ sq_dist (take a.dim a.x) a.self.mean =
-    sym (gaps_end n c.loop-i.i c.loop-i.self.mean a.x h c.loop-i.n) ∙ q.5 in
-    rw (e, g, q.3)
+    let s = c.loop-i in
+    let x = c.args.x.now in
+    let n = c.min-k.result in
+    let q = s.invariant in
+    let h : n ≤ s.i = search rules in
+    let e : s.self.mean ≡ moved _ c.args.self.mean x = sym (moved_end n s.i s.self.mean x h _) ∙ q.3 in
+    let g : s.n ≡ sq_dist x c.args.self.mean = sym (gaps_end n s.i s.self.mean x h s.n) ∙ q.4 in
+    rw (e, g, q.2)

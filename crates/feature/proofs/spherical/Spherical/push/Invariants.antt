@@ -9,9 +9,6 @@ use Rattle.feature.proofs.spherical.Spherical.push.Given as goal
 
 abbrev pub invariant-loop-i : goal.invariant-loop-i
 invariant-loop-i l =
-    (l.i ≤ l.k) × (length l.self.mean ≡ 15) × (l.self.w ≡ l.initial.self.w) × (l.self.ssd ≡ l.initial.self.ssd)
-    × (take l.i l.self.mean ++ moved l.factor (drop l.i l.self.mean) (rest l.k l.i l.x) ≡ moved l.factor l.initial.self.mean (take l.dim l.x))
-    × (sum_from l.n (rest l.k l.i l.x) (drop l.i l.self.mean) ≡ sq_dist (take l.dim l.x) l.initial.self.mean)
-
-abbrev pub decreases-loop-i : goal.decreases-loop-i
-decreases-loop-i l = l.k - l.i
+    (length l.self.mean ≡ 15) × (l.self.w ≡ l.initial.self.w) × (l.self.ssd ≡ l.initial.self.ssd)
+    × (take l.i l.self.mean ++ moved l.factor (drop l.i l.self.mean) (rest l.k l.i l.x) ≡ moved l.factor l.initial.self.mean l.x)
+    × (sum_from l.n (rest l.k l.i l.x) (drop l.i l.self.mean) ≡ sq_dist l.x l.initial.self.mean)

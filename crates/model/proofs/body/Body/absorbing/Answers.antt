@@ -2,4 +2,4 @@
 use Rattle.model.proofs.body.Body.absorbing.Goals as goal
 
 pub returns : goal.returns
-returns c = rw (c.push.ensures, c.decay-old.ensures, c.fade.ensures.value)
+returns c = rw (c.push.ensures, c.decay-faded.ensures, c.fade.ensures.value)

@@ -2,4 +2,4 @@
 use Rattle.model.proofs.body.Body.birth.Goals as goal
 
 pub returns : goal.returns
-returns c = rw (c.push.ensures, c.new-none.ensures)
+returns c = rw (c.push.ensures, c.new.ensures)
