@@ -1,7 +1,6 @@
 -- What the proofs of `src/` cite, on plain numbers.
-pub mod Tests
+pub mod StdFloats
 pub mod Steps
 pub mod PowerBits
 pub mod Least
 pub mod Exponent
-pub mod CeilCases

@@ -31,10 +31,8 @@ fn log_series(q: f64) -> f64
     ensures { result ≡ series q 21 nought }
 {
     let mut h = 0.0;
-    let mut n: u32 = 21;
-    while n > 0 {
-        n -= 1;
-        h = h * q + 1.0 / ((2 * n + 1) as f64);
+    for k in (0..21u32).rev() {
+        h = h * q + 1.0 / ((2 * k + 1) as f64);
     }
     h
 }
@@ -43,15 +41,13 @@ fn log_series(q: f64) -> f64
 pub fn ln(v: f64) -> f64
     ensures { result ≡ ln_of v }
 {
-    if v >= 1.0 {
-        if is_finite(v) {
-            let e = exponent(v);
-            let m = v / power_up(e);
-            let s = (m - 1.0) / (m + 1.0);
-            return (e as f64) * L + (2.0 * s) * log_series(s * s);
-        }
+    if !(v >= 1.0 && is_finite(v)) {
+        return v;
     }
-    v
+    let e = exponent(v);
+    let m = v / power_up(e);
+    let s = (m - 1.0) / (m + 1.0);
+    (e as f64) * L + (2.0 * s) * log_series(s * s)
 }
 
 // The logarithm to base 2: the natural one over L.

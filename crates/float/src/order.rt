@@ -3,37 +3,23 @@ ghost use Rattle.std.specs.Prelude.{◌≡◌};
 ghost use Rattle.float.specs.Order.{is_finite, larger, smaller};
 
 // Whether x is neither a NaN nor an infinity.
+#[tactic(auto, using(crate::proofs::StdFloats::finite_same))]
 pub fn is_finite(x: f64) -> bool
     ensures { result ≡ is_finite x }
 {
-    let inf = f64::from_bits(0x7ff0_0000_0000_0000);
-    if x < inf { -inf < x } else { false }
+    x.is_finite()
 }
 
-// The larger; of a NaN and a number, the number.
+// The larger; of a NaN and a number, the number. Of 0 and -0 the first, which f64::max leaves open.
 pub fn max(a: f64, b: f64) -> f64
     ensures { result ≡ larger a b }
 {
-    let b_larger = a < b;
-    if a != a {
-        b
-    } else if b_larger {
-        b
-    } else {
-        a
-    }
+    if a.is_nan() || a < b { b } else { a }
 }
 
-// The smaller; of a NaN and a number, the number.
+// The smaller; of a NaN and a number, the number. Of 0 and -0 the first, which f64::min leaves open.
 pub fn min(a: f64, b: f64) -> f64
     ensures { result ≡ smaller a b }
 {
-    let b_smaller = b < a;
-    if a != a {
-        b
-    } else if b_smaller {
-        b
-    } else {
-        a
-    }
+    if a.is_nan() || b < a { b } else { a }
 }

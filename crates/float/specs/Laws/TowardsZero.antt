@@ -55,7 +55,7 @@ module _ (m : ℕ) (e : ℤ) where
       (le-div_iff_mul-le (down_pos e)).0 (size_reaches (m * up e / down e) digits (omega (arith, b, l, biased_is m e g)))
 
 -- ---- a double's whole part is a double
-whole_part : (m : ℕ) (e : ℤ) → T (fits binary64 (fin false m e)) → Is (whole (m * up e / down e)) (m * up e / down e)
+pub whole_part : (m : ℕ) (e : ℤ) → T (fits binary64 (fin false m e)) → Is (whole (m * up e / down e)) (m * up e / down e)
 unfolding of_int
 whole_part m (negsuc j) f = whole_is (m * 1 / 2 ^ suc j) (le_trans (div-le_self (m * 1) (2 ^ suc j)) (omega (arith, few false m (negsuc j) f)))
 whole_part m (pos j) f =
@@ -86,7 +86,7 @@ minus : (m : ℕ) (e : ℤ) → neg (fin false m e) ≡ fin true m e
 unfolding neg
 minus m e = refl
 
-fits_plus : (m : ℕ) (e : ℤ) → T (fits binary64 (fin true m e)) → T (fits binary64 (fin false m e))
+pub fits_plus : (m : ℕ) (e : ℤ) → T (fits binary64 (fin true m e)) → T (fits binary64 (fin false m e))
 unfolding fits
 fits_plus zero e t = t
 fits_plus (suc m) e t = t

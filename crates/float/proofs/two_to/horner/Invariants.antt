@@ -1,10 +1,7 @@
-use Rattle.std.proofs.Common.{◌≡◌, ◌≤◌}
+use Rattle.std.proofs.Common.{◌≡◌, ◌-◌}
 use Rattle.float.specs.TwoTo.{steps}
 use Rattle.float.specs.Rounded.{one}
 use Rattle.float.proofs.two_to.horner.Given as goal
 
 abbrev pub invariant-loop-n : goal.invariant-loop-n
-invariant-loop-n l = (l.n ≤ 20) × (steps l.z l.n l.h ≡ steps l.z 20 one)
-
-abbrev pub decreases-loop-n : goal.decreases-loop-n
-decreases-loop-n l = l.n
+invariant-loop-n l = steps l.z (l.n - 1) l.h ≡ steps l.z 20 one
