@@ -20,7 +20,7 @@ pub use clock::{Clock, Ticked};
 pub use fading::faded;
 pub use limits::{LINKS, MICROS};
 pub use link::Link;
-pub use micro::{DbMicro, DenMicro, MicroId};
+pub use micro::{DbMicro, DenMicro, Micro, MicroId};
 pub use params::{DbParams, DenParams};
 pub use periods::{floor, t_gap, tp};
 pub use point::padded;
