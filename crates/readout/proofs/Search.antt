@@ -1,56 +1,62 @@
--- The nearest as a counting loop finds it. Assumes nothing.
-use Prim.Native.Nat.{ℕ, ◌+◌, ◌≤◌, ◌<◌}
-use mathlib.Core.Path.{◌≡◌, sym, ap, ◌∙◌}
-use mathlib.Core.Bool.{Bool, true, false, cond}
-use mathlib.Core.List.{List}
-use mathlib.Core.Option.{some}
-use lib.Ieee.{Float, nan, lt}
-use lib.ListN.{length, take, get_or}
-use Rattle.lists.specs.Laws.Rest.{rest_start, rest_step, rest_end}
-use Rattle.lists.specs.Rest.{rest}
-use Rattle.model.specs.Nearest.{near_at, nearest_from, nearest_of}
+-- The nearest as a loop finds it. Assumes nothing.
+use Rattle.std.specs.Prelude.{ℕ, ◌+◌, ◌<◌, ◌≤◌, ◌≡◌, refl, Bool, true, false, cond, List, [], ◌∷◌, length, drop, Float, Some, None, slice_get, slice_index_or}
+use Rattle.std.proofs.Common.{ap, ap₂, sym, ◌∙◌, arith, add-one}
+use Rattle.std.proofs.Math.Seq.{drop-cons}
+use Rattle.std.proofs.Math.ListN.{drop_of_length-le}
+use Rattle.std.proofs.Math.Option.{some}
+use Rattle.std.specs.Float.Ieee.{lt}
+use Rattle.model.specs.Nearest.{Near, near_at, nearer, nearest_from, nearest_of}
 use Rattle.readout.specs.declared.distances.Found.{Found}
-use Rattle.std.specs.Prelude.{Option, Some, None}
-use Rattle.readout.specs.Found.{found_of, nearest_among}
+use Rattle.readout.specs.Found.{found_of}
 
--- the nearest so far has this place and distance; what is left starts at i
-unfoldable pub found_from : (place : ℕ) (dist : Float) (i : ℕ) → List Float → Option Found
-unfolding nearest_from
-found_from place dist i l = found_of (some (nearest_from (λ (d : Float). d) (near_at (λ (d : Float). d) place dist) i l))
+module _ {A : Type 0} (d : A → Float) where
+  abbrev here : ℕ → A → Found
+  here i a = record { place = i; dist = d a }
 
-pub found_none : (l : List Float) (n : ℕ) → n ≡ 0 → nearest_among (take n l) ≡ None
-unfolding nearest_among nearest_of
-found_none l n e = ap (λ (k : ℕ). nearest_among (take k l)) e
+  -- the nearest so far is f; what is left starts at place i
+  unfoldable pub found_from : Found → ℕ → List A → Found
+  found_from f i [] = f
+  found_from f i (a ∷ rest) = found_from (cond (lt (d a) f.dist) (here i a) f) (i + 1) rest
 
-module _ (n : ℕ) (l : List Float) (k : n ≤ length l) where
-  pub found_start : 0 < n → nearest_among (take n l) ≡ found_from 0 (get_or l 0 nan) 1 (rest n 1 l)
-  unfolding nearest_among nearest_of found_from
-  found_start h = ap (λ (r : List Float). nearest_among r) (sym (rest_start n l) ∙ rest_step n 0 l nan h k)
+  abbrev found_in : Near A → Found
+  found_in b = record { place = b.place; dist = b.dist }
 
-  module _ (place : ℕ) (dist : Float) (i : ℕ) where
-    turned :
-        (t : Bool) → lt (get_or l i nan) dist ≡ t → i < n →
-        let at = near_at (λ (d : Float). d) in
-        found_of (some (nearest_from (λ (d : Float). d) (cond t (at i (get_or l i nan)) (at place dist)) (i + 1) (rest n (i + 1) l)))
-        ≡ found_from place dist i (rest n i l)
-    unfolding found_from nearest_from
-    turned t e h =
-        sym
-        (ap (found_from place dist i) (rest_step n i l nan h k)
-        ∙ ap
-        (λ (b : Bool). found_of (some (nearest_from (λ (d : Float). d)
-        (cond b (near_at (λ (d : Float). d) i (get_or l i nan)) (near_at (λ (d : Float). d) place dist)) (i + 1) (rest n (i + 1) l))))
-        e)
+  choice : (t : Bool) (b : Near A) (i : ℕ) (a : A) → found_in (cond t (near_at d i a) b) ≡ cond t (here i a) (found_in b)
+  choice true b i a = refl
+  choice false b i a = refl
 
-    -- a turn that takes the one at i, one that keeps what it had, and the end
-    pub found_take : i < n → lt (get_or l i nan) dist ≡ true → found_from i (get_or l i nan) (i + 1) (rest n (i + 1) l) ≡ found_from place dist i (rest n i l)
+  found_nearest : (b : Near A) (i : ℕ) (l : List A) → found_in (nearest_from d b i l) ≡ found_from (found_in b) i l
+  unfolding nearest_from found_from
+  found_nearest b i [] = refl
+  found_nearest b i (a ∷ l) =
+      found_nearest (nearer d b (near_at d i a)) (i + 1) l ∙ ap (λ (f : Found). found_from f (i + 1) l) (choice (lt (d a) b.dist) b i a)
+
+  pub found_start : (a : A) (l : List A) → Some (found_from (here 0 a) 1 l) ≡ found_of (nearest_of d (a ∷ l))
+  unfolding nearest_of
+  found_start a l = ap Some (sym (found_nearest (near_at d 0 a) 1 l))
+
+  pub found_step : (f : Found) (i : ℕ) (a : A) (l : List A) → found_from f i (a ∷ l) ≡ found_from (cond (lt (d a) f.dist) (here i a) f) (i + 1) l
+  unfolding found_from
+  found_step f i a l = refl
+
+  -- ---- the loop over a slice
+  pub found_none : (l : List A) → slice_get l 0 ≡ None → None ≡ found_of (nearest_of d l)
+  unfolding nearest_of
+  found_none [] h = refl
+  found_none (a ∷ l) h = let z : ◌≡◌ {A = ℕ} 0 1 = cc in absurd (omega arith)
+
+  pub found_first : (l : List A) (a : A) (v : Float) → slice_get l 0 ≡ Some a → v ≡ d a → Some (found_from (record { place = 0; dist = v }) 1 (drop 1 l)) ≡ found_of (nearest_of d l)
+  found_first [] a v h e = let z : ◌≡◌ {A = ℕ} 0 1 = cc in absurd (omega arith)
+  found_first (b ∷ l) a v h e = let q : a ≡ b = cc in rw (e, q) (found_start b l)
+
+  module _ (l : List A) (f : Found) (i : ℕ) where
+    pub found_next :
+        (a : A) (v : Float) (t : Bool) → i < length l → a ≡ slice_index_or l i a → v ≡ d a → lt v f.dist ≡ t →
+        found_from (cond t (record { place = i; dist = v }) f) (i + 1) (drop (i + 1) l) ≡ found_from f i (drop i l)
+    found_next a v t h ea ev et =
+        rw (← et, ev)
+        (sym (ap (found_from f i) (drop-cons l i a h ∙ ap₂ (λ (b : A) (k : ℕ). b ∷ drop k l) (sym ea) (sym (add-one i))) ∙ found_step f i a (drop (i + 1) l)))
+
+    pub found_end : length l ≤ i → found_from f i (drop i l) ≡ f
     unfolding found_from
-    found_take h t = turned true t h
-
-    pub found_keep : i < n → lt (get_or l i nan) dist ≡ false → found_from place dist (i + 1) (rest n (i + 1) l) ≡ found_from place dist i (rest n i l)
-    unfolding found_from
-    found_keep h t = turned false t h
-
-    pub found_end : n ≤ i → found_from place dist i (rest n i l) ≡ Some (record { place = place; dist = dist })
-    unfolding found_from nearest_from
-    found_end h = rw (rest_end n i l h)
+    found_end h = rw (drop_of_length-le l h)

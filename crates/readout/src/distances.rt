@@ -1,6 +1,8 @@
-// The nearest of the micro-clusters whose distances were measured.
-ghost use Rattle.std.specs.Prelude.{◌≡◌};
-ghost use Rattle.readout.specs.Found.{nearest_among};
+// The nearest of a list, by a distance that the caller measures.
+ghost use Rattle.std.specs.Prelude.{◌≡◌, Float};
+ghost use Rattle.lists.specs.Retain.{AnswersBy};
+ghost use Rattle.model.specs.Nearest.{nearest_of};
+ghost use Rattle.readout.specs.Found.{found_of};
 
 // Where the nearest stands, and how far it is.
 #[derive(Clone, Copy)]
@@ -10,18 +12,19 @@ pub struct Found {
 }
 
 // Takes a smaller distance only: ties keep the lower place and a NaN met first stays.
-pub fn nearest(distances: &[f64]) -> Option<Found>
-    ensures { result ≡ nearest_among distances.now }
+pub fn nearest<M, F: Fn(&M) -> f64>(items: &[M], distance: F) -> Option<Found>
+    requires { F.IsAlwaysCallable distance }
+    ensures { (d : M → Float) → AnswersBy F.Fn distance d → result ≡ found_of (nearest_of d items.now) }
 {
-    let Some(first) = distances.first() else {
+    let Some(first) = items.first() else {
         return None;
     };
     let mut found = Found {
         place: 0,
-        dist: *first,
+        dist: distance(first),
     };
-    for place in 1..distances.len() {
-        let dist = distances[place];
+    for place in 1..items.len() {
+        let dist = distance(&items[place]);
         if dist < found.dist {
             found = Found { place, dist };
         }

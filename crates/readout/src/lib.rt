@@ -6,7 +6,6 @@ mod distances;
 mod label_readout;
 mod prediction;
 mod stats;
-mod writing;
 
 pub use distances::{Found, nearest};
 pub use label_readout::{n_clusters, read_labels};

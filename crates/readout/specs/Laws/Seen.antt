@@ -1,6 +1,6 @@
--- The bodies in an array are those of what it holds, of dim coordinates. Assumes nothing.
-use Rattle.std.specs.Prelude.{ℕ, min, ◌≡◌, refl, List, [], ◌∷◌, map, take}
-use Rattle.std.proofs.Common.{ap, ap₂, ◌∙◌}
+-- The bodies that are seen are those of the micro-clusters, of dim coordinates. Assumes nothing.
+use Rattle.std.specs.Prelude.{ℕ, min, ◌≡◌, refl, List, [], ◌∷◌, map}
+use Rattle.std.proofs.Common.{ap₂}
 use Rattle.feature.specs.Feature.{max_dim}
 use Rattle.model.specs.declared.body.Body.{Body}
 use Rattle.model.specs.Body.{body_in}
@@ -8,9 +8,6 @@ use Rattle.readout.specs.Seen.{seen}
 
 -- of either stream: body is what a micro-cluster has of it, cut the micro-cluster of dim coordinates that it is
 module _ {A : Type 0} (body : A → Body) (cut : A → A) (dim : ℕ) (same : (m : A) → body_in (min dim max_dim) (body m) ≡ body (cut m)) where
-  bodies_cut : (l : List A) → map (body_in (min dim max_dim)) (map body l) ≡ map body (map cut l)
-  bodies_cut [] = refl
-  bodies_cut (m ∷ l) = ap₂ ◌∷◌ (same m) (bodies_cut l)
-
-  pub bodies_are : (n : ℕ) (bodies : List Body) (ms : List A) → take n bodies ≡ map body (take n ms) → seen dim n bodies ≡ map body (map cut (take n ms))
-  bodies_are n bodies ms h = ap (map (body_in (min dim max_dim))) h ∙ bodies_cut (take n ms)
+  pub bodies_are : (ms : List A) → seen dim body ms ≡ map body (map cut ms)
+  bodies_are [] = refl
+  bodies_are (m ∷ ms) = ap₂ ◌∷◌ (same m) (bodies_are ms)

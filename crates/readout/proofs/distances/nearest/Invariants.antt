@@ -1,8 +1,11 @@
-use Rattle.std.proofs.Common.{◌≡◌, length}
-use Rattle.lists.specs.Rest.{rest}
-use Rattle.readout.specs.Found.{nearest_among}
+use Rattle.std.proofs.Common.{◌≡◌, ◌≤◌, length, drop, Float, Some}
+use Rattle.lists.specs.Retain.{AnswersBy}
+use Rattle.model.specs.Nearest.{nearest_of}
+use Rattle.readout.specs.Found.{found_of}
 use Rattle.readout.proofs.Search.{found_from}
 use Rattle.readout.proofs.distances.nearest.Given as goal
 
+-- what the rest makes of the nearest so far is the nearest of all
 abbrev pub invariant-loop-place : goal.invariant-loop-place
-invariant-loop-place l = found_from l.found.place l.found.dist l.place (rest (length l.distances) l.place l.distances) ≡ nearest_among l.distances
+invariant-loop-place g l =
+    (d : _ → Float) → AnswersBy g.F.Fn l.distance d → Some (found_from d l.found l.place (drop l.place l.items)) ≡ found_of (nearest_of d l.items)
