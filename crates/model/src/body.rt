@@ -1,11 +1,11 @@
 // What both streams keep of a micro-cluster, and do to it.
-ghost use Rattle.std.specs.Prelude.{◌≡◌};
+ghost use Rattle.std.specs.Prelude.{◌≡◌, min};
 ghost use Rattle.float.specs.Rounded.{nought};
 ghost use Rattle.feature.specs.Feature.{max_dim, empty};
-ghost use Rattle.model.specs.Body.{birth, absorbing, faded_weight, radius_of};
+ghost use Rattle.model.specs.Body.{birth, absorbing, faded_weight, distance_to, radius_of, body_in};
 
 use crate::fading::faded;
-use feature::Spherical;
+use feature::{MAX_DIM, Spherical};
 
 // Its feature, and the clock at its latest birth or absorption.
 #[derive(Clone, Copy)]
@@ -51,6 +51,13 @@ impl Body {
         ensures { result ≡ faded_weight lambda t self.now }
     {
         faded(self.cf.w, lambda, t, self.last)
+    }
+
+    // The squared distance of the mean's first dim coordinates from the point.
+    pub fn distance(&self, x: &[f64], dim: usize) -> f64
+        ensures { result ≡ distance_to x.now (body_in (min dim max_dim) self.now) }
+    {
+        feature::sq_euclidean(&self.cf.mean[..dim.min(MAX_DIM)], x)
     }
 
     // The root of the mean squared deviation; 0 without a weight.

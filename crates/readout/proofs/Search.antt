@@ -3,7 +3,6 @@ use Rattle.std.specs.Prelude.{ℕ, ◌+◌, ◌<◌, ◌≤◌, ◌≡◌, refl,
 use Rattle.std.proofs.Common.{ap, ap₂, sym, ◌∙◌, arith, add-one}
 use Rattle.std.proofs.Math.Seq.{drop-cons}
 use Rattle.std.proofs.Math.ListN.{drop_of_length-le}
-use Rattle.std.proofs.Math.Option.{some}
 use Rattle.std.specs.Float.Ieee.{lt}
 use Rattle.model.specs.Nearest.{Near, near_at, nearer, nearest_from, nearest_of}
 use Rattle.readout.specs.declared.distances.Found.{Found}

@@ -1,5 +1,6 @@
 // What the labels tell: a point's label, the labels themselves, and how many clusters they name.
 ghost use Rattle.std.specs.Prelude.{◌≡◌};
+ghost use Rattle.std.specs.List.{list_any};
 ghost use Rattle.model.specs.ReadOut.{labels_read, same_family, clusters_in};
 ghost use Rattle.readout.specs.Told.{labels_told};
 
@@ -17,10 +18,17 @@ pub fn read_labels(labels: &[i64], out: &mut [i64]) -> Result<(), TooShort>
 }
 
 // Whether both are one cluster's; -1 is no cluster's.
-fn same_family(a: i64, b: i64) -> bool
-    ensures { result ≡ same_family a b }
+fn same_family(a: &i64, b: &i64) -> bool
+    ensures { result ≡ same_family a.now b.now }
 {
-    0 <= a && a == b
+    0 <= *a && *a == *b
+}
+
+// Whether a cluster's label stands among these.
+fn stands_in(label: &i64, labels: &[i64]) -> bool
+    ensures { result ≡ list_any (same_family label.now) labels.now }
+{
+    labels.iter().any(|other| same_family(label, other))
 }
 
 // How many different labels there are, -1 left out: each is counted where it stands last.
@@ -30,8 +38,7 @@ pub fn n_clusters(labels: &[i64]) -> usize
     let mut n = 0;
     let mut rest = labels;
     while let Some((label, behind)) = rest.split_first() {
-        let last = !behind.iter().any(|other| same_family(*label, *other));
-        if same_family(*label, *label) && last {
+        if same_family(label, label) && !stands_in(label, behind) {
             n += 1;
         }
         rest = behind;

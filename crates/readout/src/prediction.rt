@@ -10,21 +10,19 @@ use feature::MAX_DIM;
 use model::{Micro, ShapeError};
 
 // The label of the nearest; -1 if the counts differ, none exists, or the nearest is too far.
-fn label_for<M: Micro>(
-    micros: &[M],
-    labels: &[i64],
-    radius2: f64,
-    dim: usize,
-    x: &[f64],
-) -> i64
+fn label_for<M: Micro>(micros: &[M], labels: &[i64], radius2: f64, dim: usize, x: &[f64]) -> i64
     ensures { result ≡ label_for radius2 (seen dim M.body_of micros.now) labels.now x.now }
 {
     if labels.len() != micros.len() {
         return -1;
     }
-    match nearest(micros, |m| m.body().distance(x, dim)) {
-        Some(found) if found.dist <= radius2 => labels[found.place],
-        _ => -1,
+    let Some(found) = nearest(micros, |m| m.body().distance(x, dim)) else {
+        return -1;
+    };
+    if found.dist <= radius2 {
+        labels.get(found.place).copied().unwrap_or(-1)
+    } else {
+        -1
     }
 }
 

@@ -1,47 +1,52 @@
 // The micro-clusters' centres, faded weights and radii.
-ghost use Rattle.std.specs.Prelude.{◌≡◌, map, ◌≤◌, ◌*◌, length};
+ghost use Rattle.std.specs.Prelude.{◌≡◌, map, ◌≤◌, ◌*◌, take, length};
 ghost use Rattle.feature.specs.Feature.{max_dim};
 ghost use Rattle.model.specs.Body.{faded_weight, radius_of, body_in};
+ghost use Rattle.model.specs.Limits.{micros_most};
 ghost use Rattle.model.specs.ReadOut.{written, centres_of, statistics_read};
 ghost use Rattle.readout.specs.Seen.{seen};
 ghost use Rattle.readout.specs.Told.{statistics_told};
 
 use feature::MAX_DIM;
-use model::{Micro, TooShort};
+use model::{Body, MICROS, TooShort};
 
-// The means' first coordinates, one mean after another.
-fn write_centres<M: Micro>(micros: &[M], width: usize, out: &mut [f64])
-    requires { (width ≤ max_dim) × (length micros.now * width ≤ length out.old) }
-    ensures { out.new ≡ written (centres_of (map (λ m. body_in width (M.body_of m)) micros.now)) out.old }
+// The means' first coordinates, one mean after another. The bodies come in their array, and not in a slice: how many
+// coordinates are due rests on each mean's having 15 places, which is known of an array's elements and not of a slice's.
+fn write_centres(bodies: [Body; MICROS], end: usize, width: usize, out: &mut [f64])
+    requires { (end ≤ micros_most) × (width ≤ max_dim) × (end * width ≤ length out.old) }
+    ensures { out.new ≡ written (centres_of (map (body_in width) (take end bodies))) out.old }
 {
-    for (i, m) in micros.iter().enumerate() {
+    for i in 0..end {
         let at = i * width;
-        out[at..at + width].copy_from_slice(&m.body().cf.mean[..width]);
+        let mean = bodies[i].cf.mean;
+        out[at..at + width].copy_from_slice(&mean[..width]);
     }
 }
 
 // Each one's weight, faded to t, and radius.
-fn write_figures<M: Micro>(
-    micros: &[M],
+fn write_figures(
+    bodies: [Body; MICROS],
+    end: usize,
     lambda: f64,
     t: f64,
     weights: &mut [f64],
     radii: &mut [f64],
 )
-    requires { (length micros.now ≤ length weights.old) × (length micros.now ≤ length radii.old) }
-    ensures weights_after { weights.new ≡ written (map (λ m. faded_weight lambda t (M.body_of m)) micros.now) weights.old }
-    ensures radii { radii.new ≡ written (map (λ m. radius_of (M.body_of m)) micros.now) radii.old }
+    requires { (end ≤ micros_most) × (end ≤ length weights.old) × (end ≤ length radii.old) }
+    ensures weights_after { weights.new ≡ written (map (faded_weight lambda t) (take end bodies)) weights.old }
+    ensures radii { radii.new ≡ written (map radius_of (take end bodies)) radii.old }
 {
-    for (i, m) in micros.iter().enumerate() {
-        let body = m.body();
+    for i in 0..end {
+        let body = &bodies[i];
         weights[i] = body.faded_weight(lambda, t);
         radii[i] = body.radius();
     }
 }
 
-// Of the micro-clusters, of dim coordinates, at the clock t. Every slice is asked before one is written.
-pub fn statistics<M: Micro>(
-    micros: &[M],
+// Of the first n bodies, of dim coordinates, at the clock t. Every slice is asked before one is written.
+pub fn statistics(
+    bodies: [Body; MICROS],
+    n: usize,
     lambda: f64,
     t: f64,
     dim: usize,
@@ -50,20 +55,20 @@ pub fn statistics<M: Micro>(
     radii: &mut [f64],
 ) -> Result<(), TooShort>
     ensures { statistics_told result centres.new weights.new radii.new
-        ≡ statistics_read lambda t (seen dim M.body_of micros.now) centres.old weights.old radii.old }
+        ≡ statistics_read lambda t (seen dim (λ b. b) (take n bodies)) centres.old weights.old radii.old }
 {
-    let n = micros.len();
+    let end = n.min(MICROS);
     let width = dim.min(MAX_DIM);
-    if centres.len() < n.saturating_mul(width) {
+    if centres.len() < end * width {
         return Err(TooShort);
     }
-    if weights.len() < n {
+    if weights.len() < end {
         return Err(TooShort);
     }
-    if radii.len() < n {
+    if radii.len() < end {
         return Err(TooShort);
     }
-    write_centres(micros, width, centres);
-    write_figures(micros, lambda, t, weights, radii);
+    write_centres(bodies, end, width, centres);
+    write_figures(bodies, end, lambda, t, weights, radii);
     Ok(())
 }

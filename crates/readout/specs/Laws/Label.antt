@@ -17,7 +17,7 @@ use Rattle.readout.specs.Told.{label_found, label_among}
 use Rattle.readout.specs.Laws.Nearest.{nearest_measured}
 
 module _ (radius2 : Float) (labels : List ℤ) where
-  label_found_lem : (o : Option (Near Body)) → label_found radius2 labels (found_of o) ≡ label_near radius2 labels o
+  pub label_found_lem : (o : Option (Near Body)) → label_found radius2 labels (found_of o) ≡ label_near radius2 labels o
   label_found_lem none = refl
   label_found_lem (some b) = refl
 

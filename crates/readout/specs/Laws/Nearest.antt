@@ -9,6 +9,8 @@ use native.Mathlib.Omega.{arith}
 use Rattle.std.specs.Float.Ieee.{lt}
 use Rattle.std.proofs.Math.ListN.{get_or}
 use Rattle.model.specs.Nearest.{Near, near_at, nearer, nearest_from, nearest_of}
+use Rattle.std.specs.Prelude as prelude
+use Rattle.readout.specs.declared.distances.Found.{Found}
 use Rattle.readout.specs.Found.{found_of, nearest_among}
 
 -- one of a list, with its element sent through f
@@ -77,9 +79,14 @@ module _ {A : Type 0} (distance : A → Float) where
       (from_stands (near_at distance 0 m) 1 ms (m ∷ ms) (omega arith, λ z. refl) (omega arith)
       (λ q hq z. ap (λ (k : ℕ). get_or (m ∷ ms) k z) (let u : 1 + q ≡ suc q = omega arith in u)))
 
+  -- what an option has, or what stands for none
+  abbrev found_or : Found → prelude.Option Found → Found
+  found_or f None = f
+  found_or f (Some g) = g
+
   found_some : (o : Option (Near A)) (p : ℕ) (d : Float) → found_of o ≡ Some (record { place = p; dist = d }) → (m : A) × (o ≡ some (record { place = p; micro = m; dist = d }))
   found_some none p d e = let z : ◌≡◌ {A = ℕ} 0 1 = cc in absurd (omega arith)
-  found_some (some b) p d e = (b.micro, let u : b.place ≡ p = cc in let v : b.dist ≡ d = cc in rw (u, v))
+  found_some (some b) p d e = (b.micro, let f : Found = record { place = p; dist = d } in let u : b.place ≡ p = ap (λ (q : prelude.Option Found). (found_or f q).place) e in let v : b.dist ≡ d = ap (λ (q : prelude.Option Found). (found_or f q).dist) e in rw (u, v))
 
   -- the nearest of the list stands at that place and distance
   pub record FoundAt (l : List A) (place : ℕ) (dist : Float) : Type 0 where

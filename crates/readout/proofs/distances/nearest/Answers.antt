@@ -1,7 +1,6 @@
 -- `nearest` meets its contract. Assumes nothing.
-use Rattle.std.proofs.Common.{arith, refl, sym, ap, ◌∙◌, ◌≡◌, Float, Some, rules}
+use Rattle.std.proofs.Common.{refl, sym, ap, ◌∙◌, ◌≡◌, Some, rules}
 use Rattle.std.proofs.lemmas.Fn.{says_at}
-use Rattle.lists.specs.Retain.{AnswersBy}
 use Rattle.readout.proofs.Search.{found_none, found_first, found_next, found_end}
 use Rattle.readout.proofs.distances.nearest.Goals.{then-dist-found, else-dist-found}
 use Rattle.readout.proofs.distances.nearest.Goals as goal
@@ -20,11 +19,11 @@ loop-place-preserved g c =
     let item = c.index-items-place in
     let h = c.loop-place-test.true in
     λ d a.
-      let said : c.distance-dist.result ≡ d item.result = a _ _ (says_at g.F.Fn c.distance-dist.ensures refl) in
-      elim c.if-dist-found.branch [
-        | then-dist-found w ↦ rw w.found-is (ap Some (found_next d l at.found at.place item.result c.distance-dist.result _ h (search rules) said w.if-dist-found.true) ∙ at.invariant d a)
-        | else-dist-found w ↦ rw w.found-is (ap Some (found_next d l at.found at.place item.result c.distance-dist.result _ h (search rules) said w.if-dist-found.false) ∙ at.invariant d a)
-      ]
+    let said : c.distance-dist.result ≡ d item.result = a _ _ (says_at g.F.Fn c.distance-dist.ensures refl) in
+    elim c.if-dist-found.branch [
+      | then-dist-found w ↦ rw w.found-is (ap Some (found_next d l at.found at.place item.result c.distance-dist.result _ h (search rules) said w.if-dist-found.true) ∙ at.invariant d a)
+      | else-dist-found w ↦ rw w.found-is (ap Some (found_next d l at.found at.place item.result c.distance-dist.result _ h (search rules) said w.if-dist-found.false) ∙ at.invariant d a)
+    ]
 
 pub returns : goal.returns
 returns g c =

@@ -1,4 +1,4 @@
-use Rattle.std.proofs.Common.{◌≡◌, ◌≤◌, length, drop, Float, Some}
+use Rattle.std.proofs.Common.{◌≡◌, drop, Float, Some}
 use Rattle.lists.specs.Retain.{AnswersBy}
 use Rattle.model.specs.Nearest.{nearest_of}
 use Rattle.readout.specs.Found.{found_of}
