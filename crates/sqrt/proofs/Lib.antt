@@ -1,5 +1,2 @@
--- What the proofs of `src/` cite, on plain numbers.
-pub mod Loop
-pub mod Doubling
-pub mod Cutting
-pub mod Bits
+-- What the proof of `src/` cites, on plain numbers.
+pub mod StdRoot

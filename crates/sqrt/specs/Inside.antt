@@ -1,2 +1,2 @@
--- What only the contracts of private functions cite.
+-- What only the laws cite.
 pub mod Digits

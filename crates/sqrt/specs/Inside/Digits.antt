@@ -1,4 +1,4 @@
--- What `digits` finds, and what `doubled` starts from. Definitions only.
+-- The 54 leading digits of a root, as the laws take them. Definition only.
 use Rattle.std.specs.Prelude.{ℕ, ◌-◌, ◌*◌, ◌^◌, ◌<◌, ◌≤◌}
 use Rattle.sqrt.specs.Root.{IsRoot}
 
@@ -9,9 +9,3 @@ pub record Rooted (m q i : ℕ) : Type 0 where
   pub least : 54 ≤ i
   pub most : i ≤ 80
   pub is_root : IsRoot (m * 4 ^ (i - 27)) q
-
--- s is the whole part of the root of s * s + r, and has 27 binary digits
-pub record Half (s r : ℕ) : Type 0 where
-  pub low : 2 ^ 26 ≤ s
-  pub high : s < 2 ^ 27
-  pub left : r ≤ 2 * s

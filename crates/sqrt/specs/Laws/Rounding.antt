@@ -1,6 +1,6 @@
 -- How `round` rounds a root that is cut to a whole number with a sticky digit, and what bits the result has. Assumes nothing.
 use Rattle.std.specs.Prelude.{◌≡◌, ℕ, zero, suc, ◌+◌, ◌-◌, ◌*◌, ◌/◌, ◌%◌, ◌^◌, ◌<◌, ◌≤◌, true, false, not, T, ◌≢◌, from_bits, refl, Float}
-use Rattle.std.proofs.Common.{sym, ap, ◌∙◌, inl, inr, le_trans, le_of_eq, le_antisymm, lt_of_lt_of_le, lt_of_le_of_lt, lt_of_not-le, lt_irrefl, zero-add, mul_comm, mul_left_comm, mul_assoc, suc-mul, mul-pos, mul-le-mul_right, mul-lt-mul_of_pos_right, mul-div_cancel, eq-or-lt_of_le, pow-suc, arith, true≢false, leb→le, eqb→eq, pow-add, pow_pos, pow_mono, shl_lt}
+use Rattle.std.proofs.Common.{sym, ap, ◌∙◌, inl, inr, le_trans, le_of_eq, le_antisymm, lt_of_lt_of_le, lt_of_le_of_lt, lt_of_not-le, lt_irrefl, zero-add, mul_comm, mul_left_comm, mul_assoc, suc-mul, mul-pos, mul-le-mul_right, le-div_iff_mul-le, div-lt_iff_lt-mul, mul-lt-mul_of_pos_right, mul-div_cancel, eq-or-lt_of_le, pow-suc, arith, true≢false, leb→le, eqb→eq, pow-add, pow_pos, pow_mono, shl_lt}
 use Prim.Native.Nat.{compare, Ordering}
 use Rattle.std.proofs.Math.Nat.{mul-mul-mul_comm, eq_of_mul-eq-mul_right}
 use Rattle.std.proofs.Math.Arith.{digits_div, digits_mod}
@@ -132,22 +132,58 @@ step_of n a p q t P e r s =
 size_is : (a n : ℕ) → 2 ^ a ≤ n → n < 2 ^ suc a → size n ≡ suc a
 size_is a n lo hi = le_antisymm (size-le n (suc a) hi) (lt_of_not-le (λ (g : size n ≤ a). lt_irrefl n (lt_of_lt_of_le (size-lt n) (le_trans (pow_mono g) lo))))
 
--- numbers of more than 38 digits, which `omega` does not take, are worked out by antt
-unit_is : (t p : ℕ) → t * 2 ^ 1074 * (2 * (2 * p)) ≡ t * (2 ^ 593 * (p * 2 ^ 483))
-unit_is t p =
-    mul_assoc t (2 ^ 1074) (2 * (2 * p))
-    ∙ ap (λ (x : ℕ). t * x) (ap (λ (x : ℕ). 2 ^ 1074 * x) (sym (mul_assoc 2 2 p)) ∙ sym (mul_assoc (2 ^ 1074) 4 p) ∙ mul_comm (2 ^ 1076) p)
-    ∙ ap (λ (x : ℕ). t * x) (sym (mul_left_comm (2 ^ 593) p (2 ^ 483)))
+-- it rounds to 53 digits: half of q + 1. b says in which units t is, and k in which the result
+module _ (b k c : ℕ) (e : c + 1076 ≡ b + k) where
+  -- numbers of more than 38 digits, which `omega` does not take, are worked out by antt
+  unit_is : (t : ℕ) → t * 2 ^ 1074 * (2 * (2 * 2 ^ c)) ≡ t * (2 ^ b * 2 ^ k)
+  unit_is t =
+      mul_assoc t (2 ^ 1074) (2 * (2 * 2 ^ c))
+      ∙ ap (λ (x : ℕ). t * x) (ap (λ (x : ℕ). 2 ^ 1074 * x) (sym (mul_assoc 2 2 (2 ^ c)) ∙ sym (pow-add 2 2 c)) ∙ sym (pow-add 2 1074 (2 + c))
+      ∙ ap (λ (x : ℕ). 2 ^ x) (sum c e) ∙ pow-add 2 b k)
+    where
+      sum : (c : ℕ) → c + 1076 ≡ b + k → 1074 + (2 + c) ≡ b + k
+      sum c e = omega arith
 
-scaled_low : (c : ℕ) → 2 ^ 53 * (2 * 2 ^ c) * 2 ^ 481 ≡ 2 ^ (c + 535)
-scaled_low c =
-    ap (λ (x : ℕ). x * 2 ^ 481) (sym (mul_assoc (2 ^ 53) 2 (2 ^ c)) ∙ mul_comm (2 ^ 54) (2 ^ c)) ∙ mul_assoc (2 ^ c) (2 ^ 54) (2 ^ 481) ∙ sym (pow-add 2 c 535)
+  place : (x : ℕ) → 2 ^ (k + x) * 2 ^ b ≡ 2 ^ (x + 1) * (2 * 2 ^ c) * 2 ^ 1074
+  place x =
+      sym (pow-add 2 (k + x) b) ∙ ap (λ (y : ℕ). 2 ^ y) sum ∙ pow-add 2 (x + 1 + (1 + c)) 1074
+      ∙ ap (λ (y : ℕ). y * 2 ^ 1074) (pow-add 2 (x + 1) (1 + c) ∙ ap (λ (y : ℕ). 2 ^ (x + 1) * y) (pow-add 2 1 c))
+    where
+      sum : k + x + b ≡ x + 1 + (1 + c) + 1074
+      sum = omega arith
 
-scaled_high : (c : ℕ) → 2 ^ 54 * (2 * 2 ^ c) * 2 ^ 481 ≡ 2 ^ (c + 536)
-scaled_high c =
-    ap (λ (x : ℕ). x * 2 ^ 481) (sym (mul_assoc (2 ^ 54) 2 (2 ^ c)) ∙ mul_comm (2 ^ 55) (2 ^ c)) ∙ mul_assoc (2 ^ c) (2 ^ 55) (2 ^ 481) ∙ sym (pow-add 2 c 536)
+  pub rounds_at :
+      (a q t : ℕ) →
+      Step a (2 ^ c) q t →
+      (q * q ≡ a → q % 2 ≡ 0) →
+      2 ^ 53 ≤ q →
+      q < 2 ^ 54 →
+      round binary64 false t (2 ^ b) ≡ units binary64 false ((q + 1) / 2) k
+  rounds_at a q t s tie lo hi =
+      let p = 2 ^ c in
+      let low : 2 ^ (k + 52) * 2 ^ b ≤ t * 2 ^ 1074 =
+      le_trans (le_of_eq (place 52)) (mul-le-mul_right (2 ^ 1074) (le_trans (mul-le-mul_right (2 * p) lo) s.from)) in
+      let high : t * 2 ^ 1074 < 2 ^ (k + 53) * 2 ^ b =
+      lt_of_lt_of_le (mul-lt-mul_of_pos_right (lt_of_lt_of_le s.to (mul-le-mul_right (2 * p) hi)) (pow_pos 1074)) (le_of_eq (sym (place 53))) in
+      let digits : size (t * 2 ^ 1074 / 2 ^ b) ≡ suc (k + 52) =
+      size_is (k + 52) (t * 2 ^ 1074 / 2 ^ b) ((le-div_iff_mul-le (pow_pos b)).1 low)
+      (lt_of_lt_of_le ((div-lt_iff_lt-mul (pow_pos b)).1 high) (le_of_eq (ap (λ (x : ℕ). 2 ^ x) (shift k)))) in
+      round_is binary64 false t (2 ^ b)
+      ∙ ap (λ (x : ℕ). units binary64 false (closest (t * 2 ^ 1074) (2 ^ b * 2 ^ x)) x) (ap (λ (x : ℕ). x - 53) digits ∙ dropped k)
+      ∙ ap (λ (x : ℕ). units binary64 false x k)
+      (closest_same (t * 2 ^ 1074) (2 ^ b * 2 ^ k) t (2 * (2 * p)) (mul-pos (pow_pos b) (pow_pos k)) (quad_pos (pow_pos c)) (unit_is t)
+      ∙ closest_step q (2 * p) t s.from s.to (λ z. tie (s.exact z)))
+    where
+      shift : (k : ℕ) → k + 53 ≡ suc (k + 52)
+      shift k = omega arith
 
--- it rounds to 53 digits: half of q + 1
+      dropped : (k : ℕ) → suc (k + 52) - 53 ≡ k
+      dropped k = omega arith
+
+      quad_pos : {p : ℕ} → 0 < p → 0 < 2 * (2 * p)
+      quad_pos {p} h = omega arith
+
+-- so the definition's sticky root, in units of 2 ^ -593
 pub rounds_to :
     (a c q t : ℕ) →
     Step a (2 ^ c) q t →
@@ -155,31 +191,7 @@ pub rounds_to :
     2 ^ 53 ≤ q →
     q < 2 ^ 54 →
     round binary64 false t (2 ^ 593) ≡ units binary64 false ((q + 1) / 2) (c + 483)
-rounds_to a c q t s tie lo hi =
-    let p = 2 ^ c in
-    let cut : t * 2 ^ 1074 / 2 ^ 593 ≡ t * 2 ^ 481 =
-    ap (λ (x : ℕ). x / 2 ^ 593) (sym (mul_assoc t (2 ^ 481) (2 ^ 593))) ∙ mul-div_cancel (t * 2 ^ 481) (pow_pos 593) in
-    let low : 2 ^ (c + 535) ≤ t * 2 ^ 481 =
-    le_trans (le_of_eq (sym (scaled_low c))) (mul-le-mul_right (2 ^ 481) (le_trans (mul-le-mul_right (2 * p) lo) s.from)) in
-    let high : t * 2 ^ 481 < 2 ^ (c + 536) =
-    lt_of_lt_of_le (mul-lt-mul_of_pos_right (lt_of_lt_of_le s.to (mul-le-mul_right (2 * p) hi)) (pow_pos 481)) (le_of_eq (scaled_high c)) in
-    let digits : size (t * 2 ^ 481) ≡ suc (c + 535) = size_is (c + 535) (t * 2 ^ 481) low (lt_of_lt_of_le high (le_of_eq (ap (λ (x : ℕ). 2 ^ x) (shift c)))) in
-    let k : size (t * 2 ^ 1074 / 2 ^ 593) - 53 ≡ c + 483 = ap (λ (x : ℕ). size x - 53) cut ∙ ap (λ (x : ℕ). x - 53) digits ∙ dropped c in
-    round_is binary64 false t (2 ^ 593)
-    ∙ ap (λ (x : ℕ). units binary64 false (closest (t * 2 ^ 1074) (2 ^ 593 * 2 ^ x)) x) k
-    ∙ ap (λ (x : ℕ). units binary64 false x (c + 483))
-    (closest_same (t * 2 ^ 1074) (2 ^ 593 * 2 ^ (c + 483)) t (2 * (2 * p)) (mul-pos (pow_pos 593) (pow_pos (c + 483))) (quad_pos (pow_pos c))
-    (unit_is t p ∙ ap (λ (x : ℕ). t * (2 ^ 593 * x)) (sym (pow-add 2 c 483)))
-    ∙ closest_step q (2 * p) t s.from s.to (λ z. tie (s.exact z)))
-  where
-    shift : (c : ℕ) → c + 536 ≡ suc (c + 535)
-    shift c = omega arith
-
-    dropped : (c : ℕ) → suc (c + 535) - 53 ≡ c + 483
-    dropped c = omega arith
-
-    quad_pos : {p : ℕ} → 0 < p → 0 < 2 * (2 * p)
-    quad_pos {p} h = omega arith
+rounds_to a c q t s tie lo hi = rounds_at 593 (c + 483) c (omega arith) a q t s tie lo hi
 
 -- ---- the bits of r * 2 ^ g smallest values, r having 53 digits, or being 2 ^ 53
 

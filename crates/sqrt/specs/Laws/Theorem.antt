@@ -30,7 +30,7 @@ pub record NearestRoot (n : ℕ) (y : Float) : Type 0 where
 
 module _ (m : ℕ) (some : 0 < m) (few : m < 2 ^ 54) where
   -- how many rounds give m a root of 54 digits
-  abbrev rounds : ℕ
+  abbrev pub rounds : ℕ
   rounds = 54 + (54 - size m) / 2
 
   one_digit : 1 ≤ size m
@@ -52,7 +52,7 @@ module _ (m : ℕ) (some : 0 < m) (few : m < 2 ^ 54) where
       )
 
   -- m has a root of 54 digits
-  has_root : Rooted m (floor_root (m * 4 ^ (rounds - 27))) rounds
+  pub has_root : Rooted m (floor_root (m * 4 ^ (rounds - 27))) rounds
   has_root =
       let n = m * 4 ^ (rounds - 27) in
       let q = floor_root n in
