@@ -1,15 +1,14 @@
 -- The loop of `joined`: the pairs joined so far and those left. Assumes nothing.
-use Prim.Native.Nat.{ℕ, zero, suc, ◌+◌, ◌*◌, ◌<◌, ◌≤◌, min}
+use Prim.Native.Nat.{ℕ, suc, ◌+◌, ◌*◌, ◌<◌, ◌≤◌}
 use mathlib.Core.Path.{◌≡◌, refl, sym, ◌∙◌, ap, ap₂, subst}
 use mathlib.Core.List.{List, [], ◌∷◌, ◌++◌}
 use native.Mathlib.Omega.{arith}
 use native.Mathlib.Numerals.{add-one}
-use lib.ListN.{length, get_or, drop, length-append}
+use lib.ListN.{length, drop, length-append}
 use Rattle.lists.specs.Total.{total}
 use Rattle.lists.specs.Laws.Total.{total_append, total_most}
 use Rattle.union_find.specs.declared.forest.UnionFind.{UnionFind}
 use Rattle.union_find.specs.declared.forest.Work.{Work}
-use Rattle.union_find.specs.Pairs.{pairs_of}
 use Rattle.union_find.specs.Forest.{places, new_of, union_of, join_of, join_all}
 use Rattle.union_find.specs.Steps.{union_steps, join_steps, joins_steps, work_by}
 use Rattle.union_find.specs.Inside.Told.{joins_by}
@@ -30,29 +29,6 @@ module _ (n : ℕ) (u : UnionFind) (e : ℕ × ℕ) where
 
   pub join_none : (e.0 < n → e.1 < n → ⊥) → (u ≡ join_of n u e) × (work_by [] ≡ work_by (join_steps n u e))
   join_none h = (sym (join_out n u e h), ap work_by (sym (steps_out n u e h)))
-
--- ---- the pairs not yet joined
--- the next of them
-pub pairs_drop : (xs ys : List ℕ) (k : ℕ) → k < length xs → k < length ys → drop k (pairs_of xs ys) ≡ (get_or xs k 0, get_or ys k 0) ∷ drop (suc k) (pairs_of xs ys)
-pairs_drop [] ys k h g = absurd (omega arith)
-pairs_drop (x ∷ xs) [] k h g = absurd (omega arith)
-pairs_drop (x ∷ xs) (y ∷ ys) zero h g = refl
-pairs_drop (x ∷ xs) (y ∷ ys) (suc k) h g = pairs_drop xs ys k (omega arith) (omega arith)
-
--- none is left
-pub pairs_end : (xs ys : List ℕ) (k : ℕ) → min (length xs) (length ys) ≤ k → drop k (pairs_of xs ys) ≡ []
-pairs_end [] ys zero h = refl
-pairs_end [] ys (suc k) h = refl
-pairs_end (x ∷ xs) [] zero h = refl
-pairs_end (x ∷ xs) [] (suc k) h = refl
-pairs_end (x ∷ xs) (y ∷ ys) zero h = absurd (omega arith)
-pairs_end (x ∷ xs) (y ∷ ys) (suc k) h = pairs_end xs ys k (omega arith)
-
--- there are no more than there are first places
-pub pairs_few : (xs ys : List ℕ) → length (pairs_of xs ys) ≤ length xs
-pairs_few [] ys = omega arith
-pairs_few (x ∷ xs) [] = omega arith
-pairs_few (x ∷ xs) (y ∷ ys) = let h : length (pairs_of xs ys) ≤ length xs = pairs_few xs ys in omega arith
 
 -- ---- after k joins the forest is u; with those left it is that of all, and so are the finds and their steps
 pub record Joining (n : ℕ) (es : List (ℕ × ℕ)) (u : UnionFind) (finds steps k : ℕ) : Type 0 where

@@ -11,18 +11,22 @@ use borrow.Author.Tests.{lt-ltb, le-ltb}
 use Rattle.union_find.specs.declared.forest.UnionFind.{UnionFind}
 use Rattle.union_find.specs.declared.forest.Linked.{Linked}
 use Rattle.union_find.specs.Forest.{places, link_of}
-use Rattle.union_find.specs.Inside.Told.{forest_by, linked_of}
+use Rattle.union_find.specs.Inside.Told.{linked_of}
 use Rattle.union_find.specs.Laws.Union.{link_less, link_more, link_equal}
+
+-- the forest of two arrays
+abbrev forest_by : (parent rank : List ℕ) → UnionFind
+forest_by parent rank = record { parent = parent; rank = rank }
 
 -- the three ways
 module _ (x y rx ry : ℕ) where
-  pub lower : rx < ry → linked_of x y rx ry ≡ record { under = x; above = y; rank = ry }
+  lower : rx < ry → linked_of x y rx ry ≡ record { under = x; above = y; rank = ry }
   lower h = rw (lt-ltb rx ry h)
 
-  pub higher : ry < rx → linked_of x y rx ry ≡ record { under = y; above = x; rank = rx }
+  higher : ry < rx → linked_of x y rx ry ≡ record { under = y; above = x; rank = rx }
   higher h = simp (le-ltb rx ry (omega arith), lt-ltb ry rx h)
 
-  pub equals : rx ≡ ry → linked_of x y rx ry ≡ record { under = y; above = x; rank = rx + 1 }
+  equals : rx ≡ ry → linked_of x y rx ry ≡ record { under = y; above = x; rank = rx + 1 }
   equals h = simp (le-ltb rx ry (omega arith), le-ltb ry rx (omega arith))
 
 -- roots of u that differ

@@ -1,12 +1,6 @@
 -- Joined pairs of places, and chains of them. Definitions only.
 use Rattle.std.specs.Prelude.{ℕ, ◌<◌, ◌≡◌, ◌⊎◌, List, [], ◌∷◌}
 
--- two lists of places as pairs, as far as both go
-abbrev pub pairs_of : List ℕ → List ℕ → List (ℕ × ℕ)
-pairs_of [] ys = []
-pairs_of (x ∷ xs) [] = []
-pairs_of (x ∷ xs) (y ∷ ys) = (x, y) ∷ pairs_of xs ys
-
 -- i, j is a pair of the list
 abbrev pub Listed : List (ℕ × ℕ) → ℕ → ℕ → Type 0
 Listed [] i j = ⊥

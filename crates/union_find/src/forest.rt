@@ -1,13 +1,13 @@
 // `UnionFind` by rank with path halving, the roots after a list of pairs was joined, and the work that finding them was.
-ghost use Rattle.std.specs.Prelude.{◌≡◌, ◌<◌, ◌≤◌, take};
-ghost use Rattle.union_find.specs.Pairs.{pairs_of};
+ghost use Rattle.std.specs.Prelude.{◌≡◌, ◌+◌, ◌^◌, ◌<◌, ◌≤◌, take};
 ghost use Rattle.union_find.specs.Forest.{places, new_of, find_of, link_of, union_of, join_of, join_all, roots_in};
 ghost use Rattle.union_find.specs.Steps.{union_steps, join_steps, joins_steps, find_steps, work_by};
-ghost use Rattle.union_find.specs.Inside.WellFormed.{WellFormed, Ranked};
-ghost use Rattle.union_find.specs.Inside.Told.{forest_by, found_told, linked_of, joins_by};
+ghost use Rattle.union_find.specs.Inside.WellFormed.{Sound};
+ghost use Rattle.union_find.specs.Inside.Told.{found_told, linked_of, joins_by};
 
 use crate::PLACES;
-use lists::cut;
+use std::array;
+use std::ops::AddAssign;
 
 // The parent of each place, a root being its own, and the ranks of the roots.
 #[derive(Clone, Copy)]
@@ -52,6 +52,17 @@ struct Linked {
     rank: u8,
 }
 
+impl AddAssign for Work {
+    ghost can_add_assign = { λ a b. (a.finds + b.finds < 2 ^ 64) × (a.steps + b.steps < 2 ^ 64) };
+
+    ghost add_assign_gives = { λ a b r. r ≡ record { finds = a.finds + b.finds; steps = a.steps + b.steps } };
+
+    fn add_assign(&mut self, more: Work) {
+        self.finds += more.finds;
+        self.steps += more.steps;
+    }
+}
+
 // Of the roots x and y with these ranks the lower goes under the higher, and of equals y under x, whose rank grows.
 fn by_rank(x: usize, y: usize, rx: u8, ry: u8) -> Linked
     requires { rx ≤ 6 }
@@ -64,17 +75,10 @@ fn by_rank(x: usize, y: usize, rx: u8, ry: u8) -> Linked
             rank: ry,
         };
     }
-    if rx == ry {
-        return Linked {
-            under: y,
-            above: x,
-            rank: rx + 1,
-        };
-    }
     Linked {
         under: y,
         above: x,
-        rank: rx,
+        rank: if rx == ry { rx + 1 } else { rx },
     }
 }
 
@@ -83,27 +87,25 @@ impl UnionFind {
     fn new() -> Self
         ensures { result ≡ new_of }
     {
-        let mut parent = [0usize; PLACES];
-        let mut i: usize = 0;
-        while i < PLACES {
-            parent[i] = i;
-            i += 1;
+        Self {
+            parent: array::from_fn(|i| i),
+            rank: [0; PLACES],
         }
-        let rank = [0u8; PLACES];
-        UnionFind { parent, rank }
     }
 
     // The root of x; each place met on the way up gets its grandparent for a parent.
-    fn find(parent: &mut [usize; PLACES], x: usize) -> Reached
-        requires { (Ranked parent.old) × (x < places) }
-        ensures { found_told parent.new result ≡ find_of parent.old x }
+    fn find(&mut self, x: usize) -> Reached
+        requires sound { Sound self.old }
+        requires place { x < places }
+        ensures found { found_told self.new.parent result ≡ find_of self.old.parent x }
+        ensures ranks { self.new.rank ≡ self.old.rank }
     {
         let mut at = x;
         let mut steps: u64 = 0;
-        while parent[at] != at {
-            let up = parent[at];
-            let grand = parent[up];
-            parent[at] = grand;
+        while self.parent[at] != at {
+            let up = self.parent[at];
+            let grand = self.parent[up];
+            self.parent[at] = grand;
             at = grand;
             steps += 1;
         }
@@ -111,29 +113,28 @@ impl UnionFind {
     }
 
     // The roots x and y made one: the lower rank goes under the higher, and of equals y under x.
-    fn link(parent: &mut [usize; PLACES], rank: &mut [u8; PLACES], x: usize, y: usize)
-        requires { (WellFormed parent.old rank.old) × (x < places) × (y < places) }
-        ensures { forest_by parent.new rank.new ≡ link_of (forest_by parent.old rank.old) x y }
+    fn link(&mut self, x: usize, y: usize)
+        requires sound { Sound self.old }
+        requires both { (x < places) × (y < places) }
+        ensures { self.new ≡ link_of self.old x y }
     {
-        if x == y {
-            return;
+        if x != y {
+            let Linked { under, above, rank } = by_rank(x, y, self.rank[x], self.rank[y]);
+            self.parent[under] = above;
+            self.rank[above] = rank;
         }
-        let l = by_rank(x, y, rank[x], rank[y]);
-        let under = l.under;
-        let above = l.above;
-        parent[under] = above;
-        rank[above] = l.rank;
     }
 
     // The classes of a and b made one.
-    fn union(parent: &mut [usize; PLACES], rank: &mut [u8; PLACES], a: usize, b: usize) -> Work
-        requires { (WellFormed parent.old rank.old) × (a < places) × (b < places) }
-        ensures rank_after { forest_by parent.new rank.new ≡ union_of (forest_by parent.old rank.old) a b }
-        ensures work { result ≡ work_by (union_steps (forest_by parent.old rank.old) a b) }
+    fn union(&mut self, a: usize, b: usize) -> Work
+        requires sound { Sound self.old }
+        requires both { (a < places) × (b < places) }
+        ensures after { self.new ≡ union_of self.old a b }
+        ensures work { result ≡ work_by (union_steps self.old a b) }
     {
-        let x = UnionFind::find(parent, a);
-        let y = UnionFind::find(parent, b);
-        UnionFind::link(parent, rank, x.root, y.root);
+        let x = self.find(a);
+        let y = self.find(b);
+        self.link(x.root, y.root);
         Work {
             finds: 2,
             steps: x.steps + y.steps,
@@ -141,74 +142,52 @@ impl UnionFind {
     }
 
     // A pair with a place that is not below n joins nothing.
-    fn join(
-        parent: &mut [usize; PLACES],
-        rank: &mut [u8; PLACES],
-        a: usize,
-        b: usize,
-        n: usize,
-    ) -> Work
-        requires { (WellFormed parent.old rank.old) × (n ≤ places) }
-        ensures rank_after { forest_by parent.new rank.new ≡ join_of n (forest_by parent.old rank.old) (a, b) }
-        ensures work { result ≡ work_by (join_steps n (forest_by parent.old rank.old) (a, b)) }
+    fn join(&mut self, a: usize, b: usize, n: usize) -> Work
+        requires sound { Sound self.old }
+        requires few { n ≤ places }
+        ensures after { self.new ≡ join_of n self.old (a, b) }
+        ensures work { result ≡ work_by (join_steps n self.old (a, b)) }
     {
-        if a < n {
-            if b < n {
-                return UnionFind::union(parent, rank, a, b);
-            }
+        if a < n && b < n {
+            return self.union(a, b);
         }
         Work { finds: 0, steps: 0 }
     }
 }
 
-// The forest after the pairs of a and b were joined in order, chained already or not.
-fn joined(a: &[usize], b: &[usize], n: usize) -> Joins
+// The forest after the pairs were joined in order, chained already or not.
+fn joined(pairs: &[(usize, usize)], n: usize) -> Joins
     requires { n ≤ places }
-    ensures { result ≡ joins_by (join_all n new_of (pairs_of a.now b.now)) (joins_steps n new_of (pairs_of a.now b.now)) }
+    ensures { result ≡ joins_by (join_all n new_of pairs.now) (joins_steps n new_of pairs.now) }
 {
-    let end = cut(a.len(), b.len());
-    let fresh = UnionFind::new();
-    let mut parent = fresh.parent;
-    let mut rank = fresh.rank;
-    let mut finds: u64 = 0;
-    let mut steps: u64 = 0;
-    let mut k: usize = 0;
-    while k < end {
-        let made = UnionFind::join(&mut parent, &mut rank, a[k], b[k], n);
-        finds += made.finds;
-        steps += made.steps;
-        k += 1;
+    let mut forest = UnionFind::new();
+    let mut work = Work { finds: 0, steps: 0 };
+    for &(a, b) in pairs {
+        work += forest.join(a, b, n);
     }
-    Joins {
-        forest: UnionFind { parent, rank },
-        work: Work { finds, steps },
-    }
+    Joins { forest, work }
 }
 
-// The roots of those of the first n places that are sought, after the pairs (a[k], b[k]) of these n were joined in order.
-pub fn roots(a: &[usize], b: &[usize], sought: [bool; PLACES], n: usize) -> Rooted
-    ensures roots_value { result.roots ≡ roots_in (take n sought) (pairs_of a.now b.now) }
-    ensures work { result.work ≡ work_by (find_steps (take n sought) (pairs_of a.now b.now)) }
+// The roots of the places that are sought, after the pairs of so many places were joined in order. Places past PLACES are none.
+pub fn roots(pairs: &[(usize, usize)], sought: &[bool]) -> Rooted
+    ensures roots_value { result.roots ≡ roots_in (take places sought.now) pairs.now }
+    ensures work { result.work ≡ work_by (find_steps (take places sought.now) pairs.now) }
 {
-    let end = cut(n, PLACES);
-    let made = joined(a, b, end);
-    let forest = made.forest;
-    let mut parent = forest.parent;
-    let mut finds = made.work.finds;
-    let mut steps = made.work.steps;
+    let sought = &sought[..sought.len().min(PLACES)];
+    let Joins {
+        mut forest,
+        mut work,
+    } = joined(pairs, sought.len());
     let mut roots = [0usize; PLACES];
-    let mut i: usize = 0;
-    while i < end {
-        if sought[i] {
-            let found = UnionFind::find(&mut parent, i);
+    for (i, &wanted) in sought.iter().enumerate() {
+        if wanted {
+            let found = forest.find(i);
             roots[i] = found.root;
-            finds += 1;
-            steps += found.steps;
+            work += Work {
+                finds: 1,
+                steps: found.steps,
+            };
         }
-        i += 1;
     }
-    Rooted {
-        roots,
-        work: Work { finds, steps },
-    }
+    Rooted { roots, work }
 }

@@ -7,10 +7,6 @@ use Rattle.union_find.specs.declared.forest.Linked.{Linked}
 use Rattle.union_find.specs.Forest.{Found}
 use Rattle.union_find.specs.Steps.{work_by}
 
--- the forest of two arrays
-abbrev pub forest_by : (parent rank : List ℕ) → UnionFind
-forest_by parent rank = record { parent = parent; rank = rank }
-
 -- a find: the parents that it left, and what it answered
 abbrev pub found_told : (parent : List ℕ) → Reached → Found
 found_told parent f = record { parent = parent; root = f.root; steps = f.steps }

@@ -17,10 +17,6 @@ pub record WellFormed (p r : List ℕ) : Type 0 where
   pub cap : (i : ℕ) → i < places → get_or r i 0 ≤ 6
   pub weight : sum places (weigh p r) ≤ places
 
--- some ranks rise with the parents
-abbrev pub Ranked : List ℕ → Type 0
-Ranked p = (r : List ℕ) × WellFormed p r
-
 -- a forest whose ranks rise with its parents
 abbrev pub Sound : UnionFind → Type 0
 Sound u = WellFormed u.parent u.rank
