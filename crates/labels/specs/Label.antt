@@ -1,5 +1,5 @@
 -- Document 01, Families: labels of places that each have a root. Definitions only.
-use Rattle.std.specs.Prelude.{ℕ, suc, ◌-◌, min, Bool, cond, List, [], ◌∷◌, ◌++◌, eqb, ltb, ℤ, pos, negsuc, length, take, replicate}
+use Rattle.std.specs.Prelude.{ℕ, suc, ◌-◌, min, Bool, cond, List, [], ◌∷◌, ◌++◌, eqb, ltb, ℤ, pos, negsuc, length, replicate}
 use Rattle.union_find.specs.Forest.{places}
 
 -- the place of v in the list; the list's length if it has none
@@ -21,6 +21,6 @@ labels_from met (b ∷ bs) (r ∷ rs) = cond b (pos (place_in r met)) (negsuc 0)
 unfoldable pub labels_of : (mask : List Bool) → (roots : List ℕ) → List ℤ
 labels_of mask roots = labels_from [] mask roots
 
--- of the first n places, and −1 from there on
-unfoldable pub labels_in : (roots : List ℕ) → (mask : List Bool) → (n : ℕ) → List ℤ
-labels_in roots mask n = labels_of (take n mask) roots ++ replicate (places - min n places) (negsuc 0)
+-- as an array of all places: −1 from the mask's end on
+unfoldable pub labels_in : (roots : List ℕ) → (mask : List Bool) → List ℤ
+labels_in roots mask = labels_of mask roots ++ replicate (places - min (length mask) places) (negsuc 0)

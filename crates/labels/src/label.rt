@@ -1,9 +1,7 @@
 // Labels of places by the root of each.
-ghost use Rattle.std.specs.Prelude.{◌≡◌, ◌≤◌, pos, take};
-ghost use Rattle.union_find.specs.Forest.{places};
-ghost use Rattle.labels.specs.Label.{place_in, labels_in};
+ghost use Rattle.std.specs.Prelude.{◌≡◌, ◌==◌, position};
+ghost use Rattle.labels.specs.Label.{labels_in};
 
-use lists::cut;
 use union_find::{PLACES, Work};
 
 // Labels of places, and the finds that were made for them.
@@ -13,49 +11,35 @@ pub struct Labelled {
     pub work: Work,
 }
 
-// The place of v among the first `count` of `met`; `count` if it is none of them.
-fn place_in(met: [usize; PLACES], count: usize, v: usize) -> usize
-    requires { count ≤ places }
-    ensures { result ≡ place_in v (take count met) }
+// The place of v among those met.
+fn place_in(met: &[usize], v: usize) -> Option<usize>
+    ensures { result ≡ position (λ u. u == v) met.now }
 {
-    let mut i: usize = 0;
-    while i < count {
-        if met[i] == v {
-            return i;
-        }
-        i += 1;
-    }
-    count
+    met.iter().position(|u| *u == v)
 }
 
-// A number of at most PLACES as a label.
-fn label(k: usize) -> i64
-    requires { k ≤ places }
-    ensures { result ≡ pos k }
+// The labels of the places that the mask covers: from 0 by first member where it is true, −1 elsewhere and at all other places.
+pub fn labels(roots: &[usize; PLACES], mask: &[bool]) -> [i64; PLACES]
+    ensures { result ≡ labels_in roots.now mask.now }
 {
-    k as i64
-}
-
-// The labels of the first n places: from 0 by first member where the mask is true, −1 elsewhere and from n on.
-pub fn labels(roots: [usize; PLACES], mask: [bool; PLACES], n: usize) -> [i64; PLACES]
-    ensures { result ≡ labels_in roots mask n }
-{
-    let end = cut(n, PLACES);
+    let mask = &mask[..mask.len().min(PLACES)];
     let mut labels = [-1i64; PLACES];
     let mut met = [0usize; PLACES];
     let mut count: usize = 0;
-    let mut i: usize = 0;
-    while i < end {
-        if mask[i] {
-            let v = roots[i];
-            let k = place_in(met, count, v);
-            if k == count {
-                met[k] = v;
-                count += 1;
-            }
-            labels[i] = label(k);
+    for (i, &inside) in mask.iter().enumerate() {
+        if inside {
+            let root = roots[i];
+            let k = match place_in(&met[..count], root) {
+                Some(k) => k,
+                None => {
+                    let k = count;
+                    met[k] = root;
+                    count += 1;
+                    k
+                }
+            };
+            labels[i] = k as i64;
         }
-        i += 1;
     }
     labels
 }

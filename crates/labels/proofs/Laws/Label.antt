@@ -1,6 +1,6 @@
 -- Labels tell the families, and count from 0 by first member. Assumes nothing.
 use Rattle.std.specs.Prelude.{ℕ, zero, suc, ◌+◌, ◌-◌, ◌<◌, ◌≤◌, min, ◌≡◌, refl, ◌↔◌, ◌⊎◌, Bool, true, false, cond, List, [], ◌∷◌, ◌++◌, ℤ, pos, negsuc, length, take, get_or, replicate}
-use Rattle.std.proofs.Common.{sym, ◌∙◌, ap, inl, inr, ⊎_elim, true≢false, append-nil, append_assoc, arith, length-append, take_at, length-take-le, eq-eqb, ne_eqb, lt-ltb, le-ltb}
+use Rattle.std.proofs.Common.{sym, ◌∙◌, ap, inl, inr, ⊎_elim, true≢false, append-nil, append_assoc, arith, length-append, take_at, eq-eqb, ne_eqb, lt-ltb, le-ltb}
 use Rattle.std.proofs.Math.Logic.{by_cases}
 use Rattle.std.proofs.Math.Decide.{ℕ_discrete, dec_lt}
 use Rattle.std.proofs.Math.ListN.{get_or-eq_default}
@@ -277,14 +277,11 @@ labels_sought sought mask es few h =
         by_cases (dec_lt i (length sought)) (λ l. omega arith)
         (λ l. absurd (true≢false (sym e ∙ get_or-eq_default sought false {n = i} (omega arith))))
 
--- of the array that `labels` gives, the first n are these
+-- of the array that `labels` gives, those that the mask covers are these
 pub labels_first :
-    (roots : List ℕ) (mask : List Bool) (n : ℕ) →
-    n ≤ places →
-    length mask ≡ places →
-    length roots ≡ places →
-    take n (labels_in roots mask n) ≡ labels_of (take n mask) roots
+    (roots : List ℕ) (mask : List Bool) → length mask ≤ places → length roots ≡ places →
+    take (length mask) (labels_in roots mask) ≡ labels_of mask roots
 unfolding labels_in labels_of
-labels_first roots mask n hn lm lr =
-    let size : length (take n mask) ≡ n = length-take-le n mask (omega arith) in
-    take_at (labels_from [] (take n mask) roots) (replicate (places - min n places) (negsuc 0)) n (labels_length [] (take n mask) roots (omega arith) ∙ size)
+labels_first roots mask hm lr =
+    take_at (labels_from [] mask roots) (replicate (places - min (length mask) places) (negsuc 0)) (length mask)
+    (labels_length [] mask roots (omega arith))

@@ -1,50 +1,52 @@
 -- `labels` meets its contract. The loop's invariant: the labels written, and those that the places left will get, are the whole (`Labelling`). Assumes nothing.
-use mathlib.Core.Path.{◌∙◌, ◌≡◌, subst}
+use Prim.Native.Nat.{◌≤◌, ◌<◌}
+use mathlib.Core.Path.{◌≡◌, sym, ◌∙◌}
 use native.Mathlib.Omega.{arith}
-use borrow.Author.Rules.{sfits_of}
 use mir.Syntax.{w64}
-use mir.Facts.{to_z-of_z}
-use lib.ListN.{get_or}
-use Rattle.labels.proofs.Labelling.{place_most, Labelling, labels_start, label_out, label_old, label_new, labels_end}
-use Rattle.labels.proofs.label.labels.Goals.{else-k-count, else-mask-i, then-k-count, then-mask-i}
+use mir.Facts.{to_z_pos}
+use mir.Val.{to_z}
+use lib.IntN.{pos}
+use lib.Seq.{length-take-le}
+use lib.ListN.{length, take, get_or, length-take}
+use Rattle.union_find.specs.Forest.{places}
+use Rattle.labels.proofs.Labelling.{place_some, place_none, labels_start, label_out, label_old, label_new, labels_end}
+use Rattle.labels.proofs.label.labels.Goals.{After-min, then-inside, in-Some, in-None, else-inside}
 use Rattle.labels.proofs.label.labels.Goals as goal
 
-pub loop-i-init : goal.loop-i-init
-loop-i-init c = let a = c.args in labels_start a.mask a.roots c.cut-end.result
+few : (c : goal.After-min) → length (take c.min.result c.args.mask.now) ≤ places
+few c = omega (arith, length-take c.min.result c.args.mask.now)
 
-pub label-requires : goal.label-requires
-label-requires c =
-    let l = c.loop-i in
-    omega (
-      arith,
-      c.place_in-k.ensures,
-      place_most (get_or c.args.roots l.i 0) l.count l.met,
-      l.invariant.few,
-    )
+pub loop-i-init : goal.loop-i-init
+loop-i-init c = labels_start (take c.min.result c.args.mask.now) c.args.roots.now
 
 pub loop-i-preserved : goal.loop-i-preserved
 loop-i-preserved c =
-    let a = c.args in
     let l = c.loop-i in
-    let end = c.cut-end.result in
-    elim c.if-mask-i.branch [
-      | then-mask-i w ↦ let stored = to_z-of_z (sfits_of {w = w64} w.label.type_inv) ∙ w.label.ensures in
-          elim w.if-k-count.branch [
-            | then-k-count x ↦ rw (w.labels-is, w.met-is, w.count-is, stored, x.met-is, x.count-is)
-                (label_new a.mask a.roots end l.labels l.met l.count l.i l.invariant c.loop-i-test.true (omega arith) (omega arith)
-                (omega arith) w.if-mask-i.true w.place_in-k.result w.place_in-k.ensures x.if-k-count.true)
-            | else-k-count x ↦ rw (w.labels-is, w.met-is, w.count-is, stored, x.met-is, x.count-is)
-                (label_old a.mask a.roots end l.labels l.met l.count l.i l.invariant c.loop-i-test.true (omega arith) (omega arith)
-                (omega arith) w.if-mask-i.true w.place_in-k.result w.place_in-k.ensures x.if-k-count.false)
-          ]
-      | else-mask-i w ↦ rw (w.labels-is, w.met-is, w.count-is) (label_out a.mask a.roots end l.labels l.met l.count l.i l.invariant c.loop-i-test.true
-          (omega arith) (omega arith) (omega arith) w.if-mask-i.false)
+    let mask = take c.min.result c.args.mask.now in
+    let roots = c.args.roots.now in
+    let k = few (goal.at.loop-i-preserved c).After-min in
+    let us = take l.count l.met in
+    let root = get_or roots l.i 0 in
+    elim c.if-inside.branch [
+      | then-inside w ↦ elim w.match-place_in.branch [
+        | in-Some x ↦
+            let e = place_some root us x.in-Some.k (sym w.place_in.ensures ∙ x.in-Some.is) in
+            let low : x.in-Some.k < l.count = omega (arith, e.1, length-take l.count l.met) in
+            let stored : to_z w64 x.in-Some.k ≡ pos x.in-Some.k = to_z_pos w64 (omega (arith, l.invariant.few, l.invariant.within, k)) in
+            rw (w.labels-is, w.met-is, w.count-is, x.met-is, x.count-is, x.k-is, stored)
+            (label_old mask roots l.labels l.met l.count l.i l.invariant (omega arith) k (omega arith) w.if-inside.true x.in-Some.k e.0 low)
+        | in-None x ↦
+            let e = place_none root us (sym w.place_in.ensures ∙ x.in-None.is) in
+            let stored : to_z w64 l.count ≡ pos l.count = to_z_pos w64 (omega (arith, l.invariant.few, l.invariant.within, k)) in
+            rw (w.labels-is, w.met-is, w.count-is, x.met-is, x.count-is, x.k-is, stored)
+            (label_new mask roots l.labels l.met l.count l.i l.invariant (omega arith) k (omega arith) w.if-inside.true
+            (e ∙ length-take-le l.count l.met (omega (arith, l.invariant.few, l.invariant.within, l.invariant.room, k))))
+      ]
+      | else-inside w ↦ rw (w.labels-is, w.met-is, w.count-is)
+          (label_out mask roots l.labels l.met l.count l.i l.invariant (omega arith) k (omega arith) w.if-inside.false)
     ]
 
 pub returns : goal.returns
 returns c =
-    let a = c.args in
     let l = c.loop-i in
-    let e : l.i ≡ c.cut-end.result = omega arith in
-    labels_end a.mask a.roots a.n c.cut-end.result l.labels l.met l.count c.cut-end.ensures
-    (omega arith) (subst (Labelling a.mask a.roots c.cut-end.result l.labels l.met l.count) e l.invariant)
+    labels_end c.args.mask.now c.min.result c.args.roots.now l.labels l.met l.count l.i (omega arith) (omega arith) (omega (arith, length-take c.min.result c.args.mask.now)) l.invariant

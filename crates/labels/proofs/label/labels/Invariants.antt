@@ -1,9 +1,5 @@
-use Prim.Native.Nat.{◌-◌}
 use Rattle.labels.proofs.Labelling.{Labelling}
 use Rattle.labels.proofs.label.labels.Given as goal
 
 abbrev pub invariant-loop-i : goal.invariant-loop-i
-invariant-loop-i l = Labelling l.mask l.roots l.end l.labels l.met l.count l.i
-
-abbrev pub decreases-loop-i : goal.decreases-loop-i
-decreases-loop-i l = l.end - l.i
+invariant-loop-i l = Labelling l.mask l.roots l.labels l.met l.count l.i
