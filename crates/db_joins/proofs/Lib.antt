@@ -1,3 +1,3 @@
 -- What the proofs of `src/` cite, on plain lists.
-pub mod Pairing
-pub mod Labelling
+mod Pairing
+mod Labelling

@@ -1,83 +1,132 @@
--- The place of a creation number and the joined pairs, as a counting loop goes through them.
-use Prim.Native.Nat.{ℕ, zero, suc, ◌+◌, ◌≤◌, ◌<◌}
+-- The place of a creation number, the ends of a link, and the pairs of the links passed. Assumes nothing.
+use Prim.Native.Nat.{ℕ, suc, ◌+◌, ◌≤◌, ◌<◌}
 use native.Mathlib.Numerals.{add-one}
 use native.Mathlib.Omega.{arith}
-use mathlib.Core.Path.{◌≡◌, refl, sym, ap, ap₂, ◌∙◌}
-use mathlib.Core.Logic.{◌≢◌}
-use mathlib.Core.List.{List, [], ◌∷◌, ◌++◌, append-nil}
-use mathlib.Core.Bool.{Bool, true, false, ◌&&◌}
-use borrow.Author.Tests.{eq-eqb, ne_eqb}
+use native.Mathlib.Decide.{dec_lt}
+use mathlib.Core.Path.{◌≡◌, refl, sym, ap, ◌∙◌}
+use mathlib.Core.Logic.{by_cases, ◌⊎◌, inl, inr, ⊎_elim}
+use mathlib.Core.List.{List, ◌++◌, map, append-nil}
+use mathlib.Core.Bool.{Bool, true, false, true≢false, ◌&&◌, cond}
+use borrow.Author.Tests.{lt-ltb, le-ltb}
+use lib.Dec.{eqb}
 use lib.Ieee.{Float, le}
-use lib.ListN.{length, take, get_or, set}
-use lib.Seq.{append_snoc}
-use Rattle.lists.specs.Laws.Rest.{rest_step, rest_end}
-use Rattle.lists.specs.Rest.{rest}
-use Rattle.union_find.specs.Pairs.{pairs_of}
+use lib.ListN.{length, take, drop, get_or, set, drop_of_length-le, get_or-eq_default}
+use lib.Seq.{append_snoc, drop-cons, take-suc-set}
+use Rattle.std.specs.Prelude.{Option, Some, None, position}
+use Rattle.std.specs.List.{position_or_len}
+use Rattle.std.proofs.lemmas.List.Recursion.{is_position_or_len}
 use Rattle.model.specs.declared.micro.MicroId.{MicroId}
+use Rattle.model.specs.declared.micro.DbMicro.{DbMicro}
 use Rattle.model.specs.declared.link.Link.{Link}
-use Rattle.model.specs.DbInsert.{faded_link}
+use Rattle.model.specs.DbInsert.{id_of, faded_link}
 use Rattle.db_joins.specs.Joined.{place_among, joins_by, joined_by}
+use Rattle.db_joins.specs.Inside.Ends.{ends_by}
 
 -- ---- the place of a creation number
-module _ (id : MicroId) (n i : ℕ) (ids : List MicroId) where
-  pub place_here : (z : MicroId) → i < n → n ≤ length ids → (get_or ids i z).0 ≡ id.0 → place_among (rest n i ids) id ≡ 0
-  unfolding place_among
-  place_here z h k e = rw (rest_step n i ids z, eq-eqb _ _ e)
+module _ (ms : List DbMicro) (id : MicroId) where
+  abbrev p : DbMicro → Bool
+  p m = eqb m.id.0 id.0
 
-  -- another one stands at i
-  pub place_next : (z : MicroId) → i < n → n ≤ length ids → (get_or ids i z).0 ≢ id.0 → place_among (rest n i ids) id ≡ suc (place_among (rest n (i + 1) ids) id)
+  place_is : place_among (map id_of ms) id ≡ position_or_len p ms
   unfolding place_among
-  place_next z h k e = rw (rest_step n i ids z, ne_eqb _ _ e)
+  place_is =
+      is_position_or_len (λ (l : List DbMicro). place_among (map id_of l) id) p refl
+      (λ m l. ap (λ (k : ℕ). cond (p m) 0 k) (one_add (place_among (map id_of l) id))) ms
+    where
+      one_add : (k : ℕ) → suc k ≡ 1 + k
+      one_add k = omega arith
 
-  -- none is left
-  pub place_none : n ≤ i → place_among (rest n i ids) id ≡ 0
-  unfolding place_among
-  place_none h = rw (rest_end n i ids)
+  -- where the search finds one
+  pub place_some : (k : ℕ) → position p ms ≡ Some k → k ≡ place_among (map id_of ms) id
+  place_some k e =
+      by_cases (dec_lt (position_or_len p ms) (length ms))
+      (λ h. let q : Some (position_or_len p ms) ≡ Some k = rw (lt-ltb _ _ h) at e in
+      let n : position_or_len p ms ≡ k = cc in
+      sym n ∙ sym place_is)
+      (λ h. let q : ◌≡◌ {A = Option ℕ} None (Some k) = rw (le-ltb (position_or_len p ms) (length ms) (omega arith)) at e in cc)
 
--- ---- the pairs
-pairs_snoc :
-    (k : ℕ) (xs ys : List ℕ) (x y : ℕ) → k < length xs → k < length ys →
-    pairs_of (take (suc k) (set xs k x)) (take (suc k) (set ys k y)) ≡ pairs_of (take k xs) (take k ys) ++ (x, y) ∷ []
-pairs_snoc k [] ys x y h g = absurd (omega arith)
-pairs_snoc k (a ∷ xs) [] x y h g = absurd (omega arith)
-pairs_snoc zero (a ∷ xs) (b ∷ ys) x y h g = refl
-pairs_snoc (suc k) (a ∷ xs) (b ∷ ys) x y h g = ap (λ (r : List (ℕ × ℕ)). (a, b) ∷ r) (pairs_snoc k xs ys x y (omega arith) (omega arith))
+  -- where it finds none, no place of the list is meant
+  pub place_none : position p ms ≡ None → length ms ≤ place_among (map id_of ms) id
+  place_none e =
+      by_cases (dec_lt (position_or_len p ms) (length ms))
+      (λ h. let q : ◌≡◌ {A = Option ℕ} (Some (position_or_len p ms)) None = rw (lt-ltb _ _ h) at e in cc)
+      (λ h. omega (arith, place_is))
+
+-- what the ends say of the test
+joins_some : (b : Bool) (e x : ℕ × ℕ) → Some e ≡ cond b (Some x) None → (b ≡ true) × (e ≡ x)
+joins_some true e x q = (refl, cc)
+joins_some false e x q = absurd (cc)
+
+joins_none : (b : Bool) (x : ℕ × ℕ) → ◌≡◌ {A = Option (ℕ × ℕ)} None (cond b (Some x) None) → b ≡ false
+joins_none true x q = absurd (cc)
+joins_none false x q = refl
 
 module _ (ids : List MicroId) (strong : List Bool) (lambda t dense : Float) where
-  -- the test by the places of the ends
-  pub joins_by_lem :
-      (l : Link) (x y : ℕ) (r b : Bool) →
-      x ≡ place_among ids l.lo →
-      y ≡ place_among ids l.hi →
-      r ≡ (get_or strong x false && get_or strong y false && le dense (faded_link lambda t l)) →
-      r ≡ b →
-      joins_by ids strong lambda t dense l ≡ b
-  joins_by_lem l x y r b ex ey e h =
-      ap₂ (λ (i j : ℕ). get_or strong i false && get_or strong j false && le dense (faded_link lambda t l)) (sym ex) (sym ey) ∙ sym e ∙ h
+  -- ---- the ends of a link
+  module _ (l : Link) where
+    abbrev lo : Bool
+    lo = get_or strong (place_among ids l.lo) false
 
-  module _ (n i : ℕ) (ls : List Link) (z : Link) (h : i < n) (fits : n ≤ length ls) (k : ℕ) (xs ys : List ℕ) where
-    pub join_take :
-        (x y : ℕ) →
-        k < length xs →
-        k < length ys →
-        x ≡ place_among ids (get_or ls i z).lo →
-        y ≡ place_among ids (get_or ls i z).hi →
-        joins_by ids strong lambda t dense (get_or ls i z) ≡ true →
-        pairs_of (take (k + 1) (set xs k x)) (take (k + 1) (set ys k y)) ++ joined_by ids strong lambda t dense (rest n (i + 1) ls)
-        ≡ pairs_of (take k xs) (take k ys) ++ joined_by ids strong lambda t dense (rest n i ls)
-    unfolding joined_by
-    join_take x y hx hy ex ey e =
-        rw (rest_step n i ls z, e, ← ex, ← ey, add-one, add-one, pairs_snoc k xs ys x y hx hy, append_snoc (pairs_of (take k xs) (take k ys)) (x, y))
+    abbrev hi : Bool
+    hi = get_or strong (place_among ids l.hi) false
+
+    abbrev lasts : Bool
+    lasts = le dense (faded_link lambda t l)
+
+    pub ends_some : (i j : ℕ) → i ≡ place_among ids l.lo → j ≡ place_among ids l.hi → get_or strong i false ≡ true → get_or strong j false ≡ true → lasts ≡ true
+        → Some (i, j) ≡ ends_by ids strong lambda t dense l
+    ends_some i j ei ej a b d = rw (← ei, ← ej, a, b, d)
 
     -- a link that does not join
-    pub join_skip :
-        joins_by ids strong lambda t dense (get_or ls i z) ≡ false →
-        pairs_of (take k xs) (take k ys) ++ joined_by ids strong lambda t dense (rest n (i + 1) ls)
-        ≡ pairs_of (take k xs) (take k ys) ++ joined_by ids strong lambda t dense (rest n i ls)
+    pub ends_none : (lo ≡ false) ⊎ ((hi ≡ false) ⊎ (lasts ≡ false)) → ◌≡◌ {A = Option (ℕ × ℕ)} None (ends_by ids strong lambda t dense l)
+    ends_none h = sym (ap (λ (b : Bool). cond b (Some (place_among ids l.lo, place_among ids l.hi)) None) (off lo hi lasts h))
+      where
+        off : (a b d : Bool) → (a ≡ false) ⊎ ((b ≡ false) ⊎ (d ≡ false)) → (a && b && d) ≡ false
+        off false b d h = refl
+        off true false d h = refl
+        off true true false h = refl
+        off true true true h = ⊎_elim (λ e. absurd (true≢false e)) (⊎_elim (λ e. absurd (true≢false e)) (λ e. absurd (true≢false e))) h
+
+    -- nor does one with an end past the list, which is not strong
+    pub lo_past : length strong ≤ place_among ids l.lo → ◌≡◌ {A = Option (ℕ × ℕ)} None (ends_by ids strong lambda t dense l)
+    lo_past h = ends_none (inl (get_or-eq_default strong false {n = place_among ids l.lo} h))
+
+    pub hi_past : length strong ≤ place_among ids l.hi → ◌≡◌ {A = Option (ℕ × ℕ)} None (ends_by ids strong lambda t dense l)
+    hi_past h = ends_none (inr (inl (get_or-eq_default strong false {n = place_among ids l.hi} h)))
+
+  -- ---- the first k pairs stand for the links passed
+  pub record Pairing (links : List Link) (ps : List (ℕ × ℕ)) (k i : ℕ) : Type 0 where
+    pub few : k ≤ i
+    pub made : take k ps ++ joined_by ids strong lambda t dense (drop i links) ≡ joined_by ids strong lambda t dense links
+
+  module _ (links : List Link) (ps : List (ℕ × ℕ)) (k i : ℕ) (g : Pairing links ps k i) (z : Link) (h : i < length links) where
+    pub pair_taken :
+        (e : ℕ × ℕ) → k < length ps → Some e ≡ ends_by ids strong lambda t dense (get_or links i z) → Pairing links (set ps k e) (k + 1) (i + 1)
     unfolding joined_by
-    join_skip e = rw (rest_step n i ls z, e)
+    pair_taken e room q =
+        let j = joins_some (joins_by ids strong lambda t dense (get_or links i z)) e _ q in
+        let ex = j.1 in
+        let step : take (k + 1) (set ps k e) ++ joined_by ids strong lambda t dense (drop (i + 1) links)
+        ≡ take k ps ++ joined_by ids strong lambda t dense (drop i links) =
+        rw (drop-cons links i z h, j.0, ← ex, add-one i, add-one k, take-suc-set ps k e room, append_snoc (take k ps) e) in
+        record { few = omega (arith, g.few); made = step ∙ g.made }
+
+    pub pair_passed : ◌≡◌ {A = Option (ℕ × ℕ)} None (ends_by ids strong lambda t dense (get_or links i z)) → Pairing links ps k (i + 1)
+    unfolding joined_by
+    pair_passed q =
+        let j = joins_none (joins_by ids strong lambda t dense (get_or links i z)) _ q in
+        let step : take k ps ++ joined_by ids strong lambda t dense (drop (i + 1) links)
+        ≡ take k ps ++ joined_by ids strong lambda t dense (drop i links) =
+        rw (drop-cons links i z h, j, add-one) in
+        record { few = omega (arith, g.few); made = step ∙ g.made }
+
+  pub pair_start : (links : List Link) (ps : List (ℕ × ℕ)) → Pairing links ps 0 0
+  pair_start links ps = record { few = omega arith; made = refl }
 
   -- no link is left
-  pub join_end : (n i : ℕ) (ls : List Link) (ps : List (ℕ × ℕ)) → n ≤ i → ps ++ joined_by ids strong lambda t dense (rest n i ls) ≡ ps
+  pub pair_end : (links : List Link) (ps : List (ℕ × ℕ)) (k i : ℕ) → length links ≤ i → Pairing links ps k i → take k ps ≡ joined_by ids strong lambda t dense links
   unfolding joined_by
-  join_end n i ls ps h = rw (rest_end n i ls) (append-nil ps)
+  pair_end links ps k i h g =
+      sym (append-nil (take k ps))
+      ∙ ap (λ (ls : List Link). take k ps ++ joined_by ids strong lambda t dense ls) (sym (drop_of_length-le links h))
+      ∙ g.made

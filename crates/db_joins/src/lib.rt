@@ -1,132 +1,101 @@
 // The places of strong micro-clusters that dense links join, and the labels that this gives.
 #![tactic(auto)]
 
-ghost use Rattle.std.specs.Prelude.{◌≡◌, false, ◌&&◌, ◌≤◌, take, get_or};
-ghost use Rattle.std.specs.Float.Ieee.{le};
-ghost use Rattle.union_find.specs.Pairs.{pairs_of};
+ghost use Rattle.std.specs.Prelude.{◌≡◌, ◌≤◌, ◌==◌, false, min, length, map, position, take, get_or};
 ghost use Rattle.union_find.specs.Steps.{find_steps, work_by};
 ghost use Rattle.model.specs.Limits.{micros_most, links_most};
 ghost use Rattle.model.specs.Families.{labels_by};
-ghost use Rattle.model.specs.DbInsert.{faded_link};
-ghost use Rattle.db_joins.specs.Joined.{place_among, joined_by};
+ghost use Rattle.model.specs.DbInsert.{id_of};
+ghost use Rattle.db_joins.specs.Joined.{joined_by};
+ghost use Rattle.db_joins.specs.Inside.Ends.{ends_by};
 
 use labels::Labelled;
-use model::{LINKS, Link, MICROS, MicroId};
+use model::{DbMicro, LINKS, Link, MICROS, MicroId};
 
-// The place of a creation number among the first n; how many they are where it is none of them.
-fn place_of(ids: [MicroId; MICROS], n: usize, id: MicroId) -> usize
-    requires { n ≤ micros_most }
-    ensures { result ≡ place_among (take n ids) id }
+// The place of a creation number.
+fn place_of(micros: &[DbMicro], id: MicroId) -> Option<usize>
+    ensures { result ≡ position (λ m. m.id.0 == id.0) micros.now }
 {
-    let mut i: usize = 0;
-    while i < n {
-        let a = ids[i];
-        if a.0 == id.0 {
-            return i;
-        }
-        i += 1;
-    }
-    n
+    micros.iter().position(|m| m.id == id)
 }
 
-// Whether the place is strong: none past the first n is.
-fn is_strong(strong: [bool; MICROS], n: usize, i: usize) -> bool
-    requires { n ≤ micros_most }
-    ensures { result ≡ get_or (take n strong) i false }
+// Whether the place is strong: none past the list is.
+fn is_strong(strong: &[bool], i: usize) -> bool
+    ensures { result ≡ get_or strong.now i false }
 {
-    if i < n { strong[i] } else { false }
+    strong.get(i).is_some_and(|s| *s)
 }
 
-// Whether a link joins the places i and j of its ends: both are strong, and it has faded to no less than dense.
-fn joins(
-    l: Link,
-    i: usize,
-    j: usize,
-    strong: [bool; MICROS],
-    n: usize,
+// The places of the ends, if the link joins them: both are strong, and it has faded to no less than dense.
+fn joined_ends(
+    l: &Link,
+    micros: &[DbMicro],
+    strong: &[bool],
     lambda: f64,
     t: f64,
     dense: f64,
-) -> bool
-    requires { n ≤ micros_most }
-    ensures { result ≡ (get_or (take n strong) i false && get_or (take n strong) j false && le dense (faded_link lambda t l)) }
+) -> Option<(usize, usize)>
+    requires { length strong.now ≤ length micros.now }
+    ensures { result ≡ ends_by (map id_of micros.now) strong.now lambda t dense l.now }
 {
-    if is_strong(strong, n, i) {
-        if is_strong(strong, n, j) {
-            return dense <= model::faded(l.value, lambda, t, l.last);
-        }
+    let i = place_of(micros, l.lo)?;
+    let j = place_of(micros, l.hi)?;
+    if is_strong(strong, i)
+        && is_strong(strong, j)
+        && dense <= model::faded(l.value, lambda, t, l.last)
+    {
+        Some((i, j))
+    } else {
+        None
     }
-    false
 }
 
-// Pairs of places: the first count of a and of b.
-#[derive(Clone, Copy)]
-struct Pairs {
-    a: [usize; LINKS],
-    b: [usize; LINKS],
-    count: usize,
-}
-
-// In the order of the links.
+// The pairs in the order of the links; how many they are.
 fn joined(
-    links: [Link; LINKS],
-    count: usize,
-    ids: [MicroId; MICROS],
-    strong: [bool; MICROS],
-    n: usize,
+    links: &[Link],
+    micros: &[DbMicro],
+    strong: &[bool],
     lambda: f64,
     t: f64,
     dense: f64,
-) -> Pairs
-    ensures b_value { pairs_of (take result.count result.a) (take result.count result.b) ≡ joined_by (take n ids) (take n strong) lambda t dense (take count links) }
-    ensures places { result.count ≤ links_most }
+    pairs: &mut [(usize, usize)],
+) -> usize
+    requires told { length strong.now ≤ length micros.now }
+    requires room { length links.now ≤ length pairs.old }
+    ensures pairs_after { take result pairs.new ≡ joined_by (map id_of micros.now) strong.now lambda t dense links.now }
+    ensures places { result ≤ length links.now }
 {
-    let end = lists::cut(count, LINKS);
-    let held = lists::cut(n, MICROS);
-    let mut a = [0usize; LINKS];
-    let mut b = [0usize; LINKS];
     let mut k: usize = 0;
-    let mut q: usize = 0;
-    while q < end {
-        let l = links[q];
-        let lo = l.lo;
-        let hi = l.hi;
-        let i = place_of(ids, held, lo);
-        let j = place_of(ids, held, hi);
-        if joins(l, i, j, strong, held, lambda, t, dense) {
-            a[k] = i;
-            b[k] = j;
+    for l in links {
+        if let Some(ends) = joined_ends(l, micros, strong, lambda, t, dense) {
+            pairs[k] = ends;
             k += 1;
         }
-        q += 1;
     }
-    Pairs { a, b, count: k }
+    k
 }
 
-// The labels of the first n: by first member where strong, −1 elsewhere. Roots are sought for the strong ones.
+// The labels of the micro-clusters that `strong` speaks of: by first member where strong, −1 elsewhere. Roots are sought for the strong ones.
 pub fn labels_of(
-    links: [Link; LINKS],
-    count: usize,
-    ids: [MicroId; MICROS],
-    strong: [bool; MICROS],
-    n: usize,
+    links: &[Link],
+    micros: &[DbMicro],
+    strong: &[bool],
     lambda: f64,
     t: f64,
     dense: f64,
 ) -> Labelled
-    ensures labels_value { take n result.labels ≡ labels_by (take n strong) (joined_by (take n ids) (take n strong) lambda t dense (take count links)) }
-    ensures work { result.work ≡ work_by (find_steps (take n strong) (joined_by (take n ids) (take n strong) lambda t dense (take count links))) }
+    ensures labels_value { let known = take (min (length micros.now) micros_most) strong.now in
+        take (length known) result.labels ≡ labels_by known (joined_by (map id_of micros.now) known lambda t dense (take links_most links.now)) }
+    ensures work { let known = take (min (length micros.now) micros_most) strong.now in
+        result.work ≡ work_by (find_steps known (joined_by (map id_of micros.now) known lambda t dense (take links_most links.now))) }
 {
-    let held = lists::cut(n, MICROS);
-    let pairs = joined(links, count, ids, strong, held, lambda, t, dense);
-    let a = pairs.a;
-    let b = pairs.b;
-    let k = pairs.count;
-    let rooted = union_find::roots(&a[..k], &b[..k], strong, held);
-    let roots = rooted.roots;
-    let work = rooted.work;
+    let links = &links[..links.len().min(LINKS)];
+    let strong = &strong[..strong.len().min(micros.len()).min(MICROS)];
+    let mut pairs = [(0usize, 0usize); LINKS];
+    let k = joined(links, micros, strong, lambda, t, dense, &mut pairs);
+    let rooted = union_find::roots(&pairs[..k], strong);
     Labelled {
-        labels: labels::labels(roots, strong, held),
-        work,
+        labels: labels::labels(&rooted.roots, strong),
+        work: rooted.work,
     }
 }
