@@ -1,4 +1,3 @@
--- A bucket, a cut between buckets, and the search for one.
+-- A bucket, and a cut between buckets.
 pub mod Bucket
 pub mod Cut
-pub mod Inside

@@ -13,7 +13,7 @@ pub struct CutTest {
     pub g: f64,
 }
 
-// By how much x and y differ.
+// By how much x and y differ. A -0.0 stays, which std's `abs` would make 0.0 of.
 fn apart(x: f64, y: f64) -> f64
     ensures { result ≡ apart x y }
 {
@@ -24,14 +24,11 @@ fn apart(x: f64, y: f64) -> f64
 impl CutTest {
     // Whether the cut after the n0 oldest values, whose sum is t0, fails: the means of its two sides
     // are further apart than chance explains.
-    pub fn fails(self, n0: f64, t0: f64) -> bool
-        ensures { result ≡ cut_fails self n0 t0 }
+    pub fn fails(&self, n0: f64, t0: f64) -> bool
+        ensures { result ≡ cut_fails self.now n0 t0 }
     {
         let n1 = self.width - n0;
-        if n0 < self.side {
-            return false;
-        }
-        if n1 < self.side {
+        if n0 < self.side || n1 < self.side {
             return false;
         }
         let a = 1.0 / (n0 - self.side + 1.0) + 1.0 / (n1 - self.side + 1.0);

@@ -7,4 +7,4 @@ mod search;
 
 pub use bucket::Bucket;
 pub use cut::CutTest;
-pub use search::{PLACES, some_fails, some_fails_in};
+pub use search::{PLACES, some_fails};

@@ -1,19 +1,34 @@
 -- `some_fails` meets its contract. Assumes nothing.
-use Rattle.std.proofs.Common.{le_trans, get_or, arith, sym, ◌∙◌}
-use Rattle.adwin_buckets.proofs.Walked.{new_finds, past_finds, end_finds, past_within}
+use Rattle.std.proofs.Common.{◌≡◌, ℕ, ◌+◌, ◌<◌, Bool, true, false, cond, List, drop, get_or, length, sym, ◌∙◌, arith}
+use Rattle.std.proofs.lemmas.List.{at_drop_more, at_drop_all}
+use lib.Ieee.{Float}
+use Rattle.float.specs.Rounded.{◌⊕◌}
+use Rattle.adwin_buckets.specs.declared.bucket.Bucket.{Bucket}
+use Rattle.adwin_buckets.specs.declared.cut.CutTest.{CutTest}
+use Rattle.adwin_buckets.specs.Cut.{cut_fails, some_fails}
 use Rattle.adwin_buckets.proofs.search.some_fails.Goals as goal
 
-pub loop-s-init : goal.loop-s-init
-loop-s-init c = rw c.new-s.ensures (record { within = omega arith; finds = new_finds c.args.test c.args.n c.args.buckets.now })
+-- past the bucket at i, where the cut after it fails or not
+past :
+    (c : CutTest) (n t : Float) (l : List Bucket) (i : ℕ) (d : Bucket) (f : Bool) →
+    i < length l →
+    f ≡ cut_fails c (n ⊕ (get_or l i d).size) (t ⊕ (get_or l i d).total) →
+    some_fails c n t (drop i l) ≡ cond f true (some_fails c (n ⊕ (get_or l i d).size) (t ⊕ (get_or l i d).total) (drop (i + 1) l))
+unfolding some_fails
+past c n t l i d f h e = rw e (at_drop_more (some_fails c n t) l i d h)
 
-pub loop-s-preserved : goal.loop-s-preserved
-loop-s-preserved c =
-    let s = c.loop-s.s in
-    let l = c.args.buckets.now in
-    rw c.past-s.ensures (record {
-      within = le_trans (past_within s (get_or l s.at _) c.loop-s-test.true) c.loop-s.invariant.within;
-      finds = past_finds s l _ c.loop-s-test.true c.loop-s.invariant.within ∙ c.loop-s.invariant.finds;
-    })
+pub returns-then-fails : goal.returns-then-fails
+returns-then-fails c =
+    let l = c.loop-b in
+    sym (past c.args.test l.n0 l.t0 c.args.buckets.now l.b-index _ true c.loop-b-test.true (sym c.if-fails.true ∙ c.fails.ensures)) ∙ l.invariant
+
+pub loop-b-preserved : goal.loop-b-preserved
+loop-b-preserved c =
+    let l = c.loop-b in
+    sym (past c.args.test l.n0 l.t0 c.args.buckets.now l.b-index _ false c.loop-b-test.true (sym c.if-fails.false ∙ c.fails.ensures)) ∙ l.invariant
 
 pub returns : goal.returns
-returns c = sym (end_finds c.loop-s.s c.args.buckets.now (omega arith)) ∙ c.loop-s.invariant.finds
+unfolding some_fails
+returns c =
+    let l = c.loop-b in
+    sym (at_drop_all (some_fails c.args.test l.n0 l.t0) c.args.buckets.now l.b-index (omega arith)) ∙ l.invariant

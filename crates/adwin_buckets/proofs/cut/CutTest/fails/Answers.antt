@@ -6,15 +6,16 @@ use lib.Ieee.Fits.{mul-fits}
 use lib.Ieee.Bits.{is_false}
 use Rattle.sqrt.specs.Laws.Squares.{not_above_root}
 use denote.Floats.{passes}
+use Rattle.adwin_buckets.proofs.cut.CutTest.fails.Goals.{then-n0-self-via-then-n0-self, then-n0-self-via-else-n0-self+then-n1-self}
 use Rattle.adwin_buckets.proofs.cut.CutTest.fails.Goals as goal
 
 pub returns-then-n0-self : goal.returns-then-n0-self
 unfolding cut_fails
-returns-then-n0-self c = rw c.if-n0-self.true
-
-pub returns-then-n1-self : goal.returns-then-n1-self
-unfolding cut_fails
-returns-then-n1-self c = rw (c.if-n0-self.false, c.if-n1-self.true)
+returns-then-n0-self c =
+    elim c.then-n0-self.branch [
+      | then-n0-self-via-then-n0-self w ↦ rw w.if-n0-self.true
+      | then-n0-self-via-else-n0-self+then-n1-self w ↦ rw (w.if-n0-self.false, w.if-n1-self.true)
+    ]
 
 pub returns-then-gap-square : goal.returns-then-gap-square
 unfolding cut_fails
