@@ -8,7 +8,8 @@ use Rattle.adwin.specs.Settings.{cap}
 use Rattle.adwin.specs.Buckets.{Classed, carry, push_of, pair_of, next_class}
 use Rattle.adwin_buckets.specs.Bucket.{merged_of}
 use Rattle.adwin.specs.View.{classed}
-use Rattle.lists.specs.Retain.{without}
+use Rattle.adwin.specs.Inside.Lists.{pair_merged}
+use Rattle.std.specs.List.{remove}
 use Rattle.lists.specs.Laws.Rest.{take_set}
 use Rattle.adwin.proofs.Classes.{with_class, classed_set, classed_length, classed_get_d}
 
@@ -37,18 +38,20 @@ unfolding settled
 settled_first k i l e h = rw e (same l 0 h)
 
 -- ---- the buckets at j and j + 1 as one of the next class
-unfoldable pub pair_merged : ℕ → List Classed → List Classed
-pair_merged j [] = []
-pair_merged j (x ∷ []) = x ∷ []
-pair_merged zero (x ∷ y ∷ newer) = pair_of x y ∷ newer
-pair_merged (suc j) (x ∷ y ∷ newer) = x ∷ pair_merged j (y ∷ newer)
-
 pair_get : (j : ℕ) (l : List Classed) → suc j < length l → get_or (pair_merged j l) j nothing ≡ pair_of (get_or l j nothing) (get_or l (suc j) nothing)
 unfolding pair_merged
 pair_get j [] h = absurd (omega arith)
 pair_get j (x ∷ []) h = absurd (omega arith)
 pair_get zero (x ∷ y ∷ l) h = refl
 pair_get (suc j) (x ∷ y ∷ l) h = pair_get j (y ∷ l) (omega arith)
+
+-- one bucket less, and that at j still there
+pub pair_inside : (j : ℕ) (l : List Classed) → suc j < length l → j < length (pair_merged j l)
+unfolding pair_merged
+pair_inside j [] h = absurd (omega arith)
+pair_inside j (x ∷ []) h = absurd (omega arith)
+pair_inside zero (x ∷ y ∷ l) h = omega arith
+pair_inside (suc j) (x ∷ y ∷ l) h = omega (arith, pair_inside j (y ∷ l) (omega arith))
 
 pair_take : (j : ℕ) (l : List Classed) → take j (pair_merged j l) ≡ take j l
 unfolding pair_merged
@@ -66,8 +69,8 @@ pair_drop (suc j) (x ∷ y ∷ l) h = pair_drop j (y ∷ l) (omega arith)
 
 pair_is :
     (j : ℕ) (l : List Classed) (v : Classed) → suc j < length l → v ≡ pair_of (get_or l j nothing) (get_or l (suc j) nothing) →
-    without (suc j) (set l j v) ≡ pair_merged j l
-unfolding pair_merged without
+    remove (set l j v) (suc j) ≡ pair_merged j l
+unfolding pair_merged
 pair_is j [] v h e = absurd (omega arith)
 pair_is j (x ∷ []) v h e = absurd (omega arith)
 pair_is zero (x ∷ y ∷ l) v h e = ap (λ (w : Classed). w ∷ l) e
@@ -120,17 +123,22 @@ module _ (k i j : ℕ) (l : List Classed) (e : i ≡ j + 1) (h : i < length l) w
       ∙ ap (λ (o : List Classed). reverse (carry 0 (get_or p j nothing) (reverse (take j p))) ++ o) r)
 
 -- ---- in the arrays
-module _ (n j : ℕ) (cs : List ℕ) (bs : List Bucket) (k : n ≤ length bs) (e : length cs ≡ length bs) where
-  pub class_at : j < n → (get_or (take n (classed cs bs)) j nothing).class ≡ get_or cs j 0
-  class_at h = ap (λ (x : Classed). x.class) (get_or-take n (classed cs bs) j nothing h ∙ classed_get_d cs bs j _ e)
+pub class_at : (n j : ℕ) (cs : List ℕ) (bs : List Bucket) → j < length (take n (classed cs bs)) → (get_or (take n (classed cs bs)) j nothing).class ≡ get_or cs j 0
+unfolding classed
+class_at zero j cs bs h = absurd (omega arith)
+class_at (suc n) j [] bs h = absurd (omega arith)
+class_at (suc n) j (c ∷ cs) [] h = absurd (omega arith)
+class_at (suc n) zero (c ∷ cs) (b ∷ bs) h = refl
+class_at (suc n) (suc j) (c ∷ cs) (b ∷ bs) h = class_at n j cs bs (omega arith)
 
+module _ (n j : ℕ) (cs : List ℕ) (bs : List Bucket) (k : n ≤ length bs) (e : length cs ≡ length bs) where
   -- two places merged in both arrays are merged in the row
   pub merged_both :
       (c : ℕ) (b : Bucket) →
       j + 1 < n →
       c ≡ next_class (get_or cs (j + 1) 0) →
       b ≡ merged_of (get_or bs j nothing.bucket) (get_or bs (j + 1) nothing.bucket) →
-      without (j + 1) (take n (classed (set cs j c) (set bs j b))) ≡ pair_merged j (take n (classed cs bs))
+      remove (take n (classed (set cs j c) (set bs j b))) (j + 1) ≡ pair_merged j (take n (classed cs bs))
   merged_both c b h f g =
       let l = take n (classed cs bs) in
       let w : length l ≡ n = length-take-le n (classed cs bs) (omega (arith, classed_length cs bs e)) in

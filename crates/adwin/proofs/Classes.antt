@@ -1,11 +1,9 @@
 -- The array of buckets and the array of classes as one list. Assumes nothing.
-use Rattle.std.proofs.Common.{◌≡◌, ℕ, zero, suc, ◌+◌, ◌<◌, ◌≤◌, List, [], ◌∷◌, ◌++◌, length, get_or, take, set, sym, refl, ap, arith}
+use Rattle.std.proofs.Common.{◌≡◌, ℕ, zero, suc, List, [], ◌∷◌, ◌++◌, length, get_or, take, drop, set, refl, ap, arith}
 use Rattle.adwin_buckets.specs.declared.bucket.Bucket.{Bucket}
 use Rattle.adwin.specs.Buckets.{Classed}
 use Rattle.adwin.specs.Cut.{buckets_of}
 use Rattle.adwin.specs.View.{classed}
-use Rattle.lists.specs.Rest.{rest}
-use Rattle.lists.specs.Laws.Shift.{shift_step}
 
 -- a bucket with its class
 abbrev pub with_class : ℕ → Bucket → Classed
@@ -50,12 +48,31 @@ buckets_are (suc n) [] (b ∷ bs) h = absurd (omega arith)
 buckets_are (suc n) (c ∷ cs) [] h = absurd (omega arith)
 buckets_are (suc n) (c ∷ cs) (b ∷ bs) h = ap (λ (l : List Bucket). b ∷ l) (buckets_are n cs bs (omega arith))
 
--- a removal's step in both arrays
-pub removed_both :
-    (n i : ℕ) (cs : List ℕ) (bs : List Bucket) (d : Bucket) → i + 1 < n → n ≤ length bs → length cs ≡ length bs →
-    let moved = classed (set cs i (get_or cs (i + 1) 0)) (set bs i (get_or bs (i + 1) d)) in
-    take (i + 1) moved ++ rest n (i + 1 + 1) moved ≡ take i (classed cs bs) ++ rest n (i + 1) (classed cs bs)
-removed_both n i cs bs d h k e =
-    let w : n ≤ length (classed cs bs) = omega (arith, classed_length cs bs e) in
-    rw (classed_set cs bs i (get_or cs (i + 1) 0) (get_or bs (i + 1) d) e)
-    (shift_step n i (classed cs bs) (with_class 0 d) (with_class (get_or cs (i + 1) 0) (get_or bs (i + 1) d)) h w (sym (classed_get_d cs bs (i + 1) d e)))
+-- the first places, the others, and two rows one after the other
+pub classed_take : (n : ℕ) (cs : List ℕ) (bs : List Bucket) → take n (classed cs bs) ≡ classed (take n cs) (take n bs)
+unfolding classed
+classed_take zero cs bs = refl
+classed_take (suc n) [] bs = refl
+classed_take (suc n) (c ∷ cs) [] = refl
+classed_take (suc n) (c ∷ cs) (b ∷ bs) = ap (λ (l : List Classed). with_class c b ∷ l) (classed_take n cs bs)
+
+none_left : (cs : List ℕ) → [] ≡ classed cs []
+unfolding classed
+none_left [] = refl
+none_left (c ∷ cs) = refl
+
+pub classed_drop : (n : ℕ) (cs : List ℕ) (bs : List Bucket) → drop n (classed cs bs) ≡ classed (drop n cs) (drop n bs)
+unfolding classed
+classed_drop zero cs bs = refl
+classed_drop (suc n) [] bs = refl
+classed_drop (suc n) (c ∷ cs) [] = none_left (drop n cs)
+classed_drop (suc n) (c ∷ cs) (b ∷ bs) = classed_drop n cs bs
+
+pub classed_append :
+    (cs : List ℕ) (bs : List Bucket) (ds : List ℕ) (es : List Bucket) → length cs ≡ length bs →
+    classed (cs ++ ds) (bs ++ es) ≡ classed cs bs ++ classed ds es
+unfolding classed
+classed_append [] [] ds es h = refl
+classed_append [] (b ∷ bs) ds es h = absurd (omega arith)
+classed_append (c ∷ cs) [] ds es h = absurd (omega arith)
+classed_append (c ∷ cs) (b ∷ bs) ds es h = ap (λ (l : List Classed). with_class c b ∷ l) (classed_append cs bs ds es (omega arith))

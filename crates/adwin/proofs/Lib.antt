@@ -3,7 +3,6 @@ pub mod Classes
 pub mod Gap
 pub mod Carries
 pub mod Walk
-pub mod Counted
 pub mod Drops
 pub mod Room
 pub mod Updates

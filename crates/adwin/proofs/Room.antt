@@ -1,5 +1,5 @@
 -- Whether a window has room, by the struct's figures. Assumes nothing.
-use Rattle.std.proofs.Common.{◌≡◌, ℕ, ◌<◌, min, Bool, true, false, ◌&&◌, ltb, length, sym, ap, ◌∙◌, true≢false, arith, length-take, ltb-true, le-ltb, lt-ltb}
+use Rattle.std.proofs.Common.{◌≡◌, ◌<◌, min, Bool, true, false, ◌&&◌, ltb, length, sym, ap, ◌∙◌, true≢false, arith, length-take, ltb-true, le-ltb, lt-ltb}
 use mathlib.Core.Logic.{by_cases}
 use native.Mathlib.Decide.{dec_lt}
 use Rattle.adwin.specs.declared.Adwin.{Adwin}
@@ -22,10 +22,10 @@ module _ (a : Adwin) (b : length a.buckets ≡ places) (k : length a.classes ≡
   pub room_is : (ltb a.taken limit && ltb a.count places) ≡ has_room (view a)
   room_is = ap (λ (t : Bool). ltb a.taken limit && t) same_test
 
--- a window with room has a place for its next bucket
-pub has_place : (n k : ℕ) → (ltb n limit && ltb k places) ≡ true → k < places
-has_place n k e = go (ltb n limit) e
-  where
-    go : (t : Bool) → (t && ltb k places) ≡ true → k < places
-    go true e = ltb-true k places e
-    go false e = absurd (true≢false (sym e))
+  -- a window with room has a place for its next bucket
+  pub has_place : has_room (view a) ≡ true → a.count < places
+  has_place e = go (ltb a.taken limit) (room_is ∙ e)
+    where
+      go : (t : Bool) → (t && ltb a.count places) ≡ true → a.count < places
+      go true e = ltb-true a.count places e
+      go false e = absurd (true≢false (sym e))

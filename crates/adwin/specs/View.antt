@@ -1,9 +1,10 @@
 -- What the struct's fields say: the window, the answer and its number. Definitions only.
-use Rattle.std.specs.Prelude.{ℕ, Bool, true, false, List, [], ◌∷◌, take}
+use Rattle.std.specs.Prelude.{ℕ, Bool, true, false, Result, Ok, Err, List, [], ◌∷◌, take}
 use Rattle.adwin_buckets.specs.declared.bucket.Bucket.{Bucket}
 use Rattle.adwin.specs.declared.Adwin.{Adwin}
 use Rattle.adwin.specs.declared.Verdict.{Verdict}
-use Rattle.adwin.specs.declared.Verdict.TheVariants.{Quiet, Alarm, Full}
+use Rattle.adwin.specs.declared.Verdict.TheVariants.{Quiet, Alarm}
+use Rattle.adwin.specs.declared.Full.{Full}
 use Rattle.adwin.specs.declared.Updated.{Updated}
 use Rattle.adwin.specs.Buckets.{Classed}
 use Rattle.adwin.specs.Cut.{Sums}
@@ -28,19 +29,18 @@ abbrev pub view : Adwin → Window
 view a = record { delta = a.delta; held = held_of a; sums = sums_of a; since_check = a.since_check; taken = a.taken }
 
 -- whether an answer is the alarm
-abbrev pub rings : Verdict → Bool
-rings Quiet = false
-rings Alarm = true
-rings Full = false
+abbrev pub rings : Result Verdict Full → Bool
+rings (Ok Quiet) = false
+rings (Ok Alarm) = true
+rings (Err e) = false
 
 -- the number that an answer refuses with; 0 where it does not
-abbrev pub number_of : Verdict → ℕ
-number_of Quiet = 0
-number_of Alarm = 0
-number_of Full = 8
+abbrev pub number_of : Result Verdict Full → ℕ
+number_of (Ok v) = 0
+number_of (Err e) = 8
 
 -- an update's answer, with the window beside it
-abbrev pub outcome_with : Verdict → Adwin → Outcome
+abbrev pub outcome_with : Result Verdict Full → Adwin → Outcome
 outcome_with answer a = record { alarm = rings answer; refusal = number_of answer; window = view a }
 
 -- what an update gives back, told of the window

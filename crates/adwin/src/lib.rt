@@ -1,20 +1,21 @@
 // ADWIN: a window over a stream of numbers that tells when they changed (Bifet & Gavaldà, SDM 2007).
 #![tactic(auto)]
 
-ghost use Rattle.std.specs.Prelude.{◌≡◌, ◌+◌, ◌<◌, ◌≤◌, false, ◌&&◌, nat_lt};
+ghost use Rattle.std.specs.Prelude.{◌≡◌, ◌+◌, ◌<◌, ◌≤◌, Ok, false};
 ghost use Rattle.float.specs.Order.{is_finite};
-ghost use Rattle.adwin.specs.Settings.{limit, places};
-ghost use Rattle.adwin.specs.Buckets.{next_class, push_of};
-ghost use Rattle.adwin.specs.Cut.{buckets_of, must_drop, variance_without};
-ghost use Rattle.adwin.specs.Window.{clamped, mean_of, new_of, shrunk, update_of, variance_of, variance_with, width_of};
-ghost use Rattle.adwin.specs.View.{held_of, number_of, rings, sums_of, told, view};
-ghost use Rattle.adwin.specs.Inside.Lists.{oldest_dropped, with_held};
+ghost use Rattle.std.specs.List.{remove};
+ghost use Rattle.adwin.specs.Settings.{places};
+ghost use Rattle.adwin.specs.Buckets.{push_of};
+ghost use Rattle.adwin.specs.Cut.{buckets_of, gOf, must_drop, test_of, variance_without};
+ghost use Rattle.adwin.specs.Window.{has_room, mean_of, new_of, shrunk, update_of, variance_of, variance_with, width_of};
+ghost use Rattle.adwin.specs.View.{held_of, number_of, outcome_with, rings, sums_of, told, view};
+ghost use Rattle.adwin.specs.Inside.Lists.{oldest_dropped, pair_merged, with_held};
 
 pub use adwin_buckets::{Bucket, PLACES};
-use adwin_buckets::{CutTest, some_fails_in};
+use adwin_buckets::{CutTest, some_fails};
 
 // The window. The buckets are the first `count` of the array, oldest first, each with its class:
-// a bucket of class c has 2^c values.
+// a bucket of class c has 2^c values. The classes have an array of their own, since the cut search is lent buckets alone.
 #[derive(Clone, Copy)]
 pub struct Adwin {
     pub delta: f64,
@@ -29,91 +30,31 @@ pub struct Adwin {
     pub taken: u64,
 }
 
-// The answer to an update: no change seen, a change seen, or the value refused because `LIMIT` were taken.
-#[derive(Clone, Copy)]
+// What an update tells of its value: no change seen, or a change.
+#[derive(Clone, Copy, Debug, PartialEq, Eq)]
 pub enum Verdict {
     Quiet,
     Alarm,
-    Full,
 }
 
-impl Verdict {
-    // Whether the window shrank because its values changed.
-    pub fn rings(self) -> bool
-        ensures { result ≡ rings self }
-    {
-        match self {
-            Verdict::Quiet => false,
-            Verdict::Alarm => true,
-            Verdict::Full => false,
-        }
-    }
-}
+// The refusal of a value: `LIMIT` were taken, or no place is left.
+#[derive(Clone, Copy, Debug, PartialEq, Eq)]
+pub struct Full;
 
 // What an update gives back: its answer, and the window after it.
 #[derive(Clone, Copy)]
 pub struct Updated {
-    pub answer: Verdict,
+    pub answer: Result<Verdict, Full>,
     pub window: Adwin,
 }
 
-// delta in its range; NaN stays.
-fn clamp(delta: f64) -> f64
-    ensures { result ≡ clamped delta }
-{
-    if delta < 2.2250738585072014e-308 {
-        2.2250738585072014e-308
-    } else if delta > 0.9999999999999998 {
-        0.9999999999999998
-    } else {
-        delta
+impl Updated {
+    // Whether the window shrank because its values changed.
+    pub fn rings(&self) -> bool
+        ensures { result ≡ rings self.now.answer }
+    {
+        matches!(self.answer, Ok(Verdict::Alarm))
     }
-}
-
-// The sum of squared deviations with one value more, whose deviation is from the mean before.
-fn variance_with(width: f64, total: f64, variance: f64, value: f64) -> f64
-    ensures { result ≡ variance_with width total variance value }
-{
-    if width > 0.0 {
-        let dev = value - total / width;
-        variance + width * dev * dev / (width + 1.0)
-    } else {
-        variance
-    }
-}
-
-// The sum of squared deviations without the bucket `gone`: what pooling it had added goes.
-fn variance_without(width: f64, total: f64, variance: f64, gone: Bucket) -> f64
-    ensures { result ≡ variance_without width total variance gone }
-{
-    let rest = width - gone.size;
-    if rest > 0.0 {
-        let gap = gone.total / gone.size - (total - gone.total) / rest;
-        float::max(
-            variance - (gone.variance + gone.size * rest / (gone.size + rest) * gap * gap),
-            0.0,
-        )
-    } else {
-        0.0
-    }
-}
-
-// Whether one value more can be taken.
-fn has_room(taken: u64, count: usize) -> bool
-    ensures { result ≡ (nat_lt taken limit && nat_lt count places) }
-{
-    if taken < Adwin::LIMIT {
-        count < PLACES
-    } else {
-        false
-    }
-}
-
-// The class above c. A byte ends at 255, which no window that started empty comes near.
-fn next_class(c: u8) -> u8
-    ensures { result ≡ next_class c }
-{
-    if c < 255 { c + 1 } else { 255 }
 }
 
 impl Adwin {
@@ -126,12 +67,12 @@ impl Adwin {
     // The most values that a window takes: 2 to the power 40, less 1.
     pub const LIMIT: u64 = 1099511627775;
 
-    // An empty window; delta is the rate of false alarms.
+    // An empty window; delta is the rate of false alarms, from 2^-1022 to 1 - 2^-52. NaN stays.
     pub fn new(delta: f64) -> Self
         ensures { view result ≡ new_of delta }
     {
         Self {
-            delta: clamp(delta),
+            delta: delta.clamp(f64::MIN_POSITIVE, 1.0 - f64::EPSILON),
             buckets: [Bucket {
                 size: 0.0,
                 total: 0.0,
@@ -148,22 +89,15 @@ impl Adwin {
     }
 
     // The values in the window.
-    pub fn width(self) -> usize
-        ensures { result ≡ width_of (view self).sums }
+    pub fn width(&self) -> usize
+        ensures { result ≡ width_of (view self.now).sums }
     {
-        let width = self.width;
-        if width > 0.0 {
-            if width < 18446744073709551616.0 {
-                return std::num::truncating_f64_to_u64(width) as usize;
-            }
-            return 18446744073709551615;
-        }
-        0
+        std::num::saturating_f64_to_usize(self.width)
     }
 
     // 0 while the window is empty.
-    pub fn mean(self) -> f64
-        ensures { result ≡ mean_of (view self).sums }
+    pub fn mean(&self) -> f64
+        ensures { result ≡ mean_of (view self.now).sums }
     {
         if self.width > 0.0 {
             self.total / self.width
@@ -173,8 +107,8 @@ impl Adwin {
     }
 
     // 0 below two values.
-    pub fn variance(self) -> f64
-        ensures { result ≡ variance_of (view self).sums }
+    pub fn variance(&self) -> f64
+        ensures { result ≡ variance_of (view self.now).sums }
     {
         if self.width > 1.0 {
             self.variance / self.width
@@ -183,142 +117,174 @@ impl Adwin {
         }
     }
 
-    // The window with one bucket more, the newest. Over the cap in a class, its two oldest become
-    // the newest of the next: i is the bucket reached, with k newer ones in its class. The gap
-    // closes in an inner loop, since a function of its own would copy the window at each merge.
-    fn push_bucket(mut self, new: Bucket) -> Self
-        requires { self.count < places }
-        ensures { (result.count ≤ places) × (view result ≡ with_held (view self) (push_of (held_of self) new)) }
+    // The buckets held, oldest first.
+    fn held(&self) -> &[Bucket]
+        ensures { result.now ≡ buckets_of (held_of self.now) }
+    {
+        &self.buckets[..self.count.min(PLACES)]
+    }
+
+    // Whether one value more can be taken.
+    fn has_room(&self) -> bool
+        ensures { result ≡ has_room (view self.now) }
+    {
+        self.taken < Self::LIMIT && self.count < PLACES
+    }
+
+    // The sum of squared deviations with one value more, whose deviation is from the mean before.
+    fn variance_with(&self, value: f64) -> f64
+        ensures { result ≡ variance_with self.now.width self.now.total self.now.variance value }
+    {
+        if self.width > 0.0 {
+            let dev = value - self.total / self.width;
+            self.variance + self.width * dev * dev / (self.width + 1.0)
+        } else {
+            self.variance
+        }
+    }
+
+    // The sum of squared deviations without the bucket `gone`: what pooling it had added goes.
+    fn variance_without(&self, gone: Bucket) -> f64
+        ensures { result ≡ variance_without self.now.width self.now.total self.now.variance gone }
+    {
+        let rest = self.width - gone.size;
+        if rest > 0.0 {
+            let gap = gone.total / gone.size - (self.total - gone.total) / rest;
+            float::max(
+                self.variance - (gone.variance + gone.size * rest / (gone.size + rest) * gap * gap),
+                0.0,
+            )
+        } else {
+            0.0
+        }
+    }
+
+    // The bucket at `at` leaves, and the newer ones move down.
+    fn close_gap(&mut self, at: usize)
+        requires { (at < self.old.count) × (self.old.count ≤ places) }
+        ensures { (self.new.count + 1 ≡ self.old.count) × (view self.new ≡ with_held (view self.old) (remove (held_of self.old) at)) }
+    {
+        let n = self.count;
+        self.buckets.copy_within(at + 1..n, at);
+        self.classes.copy_within(at + 1..n, at);
+        self.count = n - 1;
+    }
+
+    // The bucket at `at` and the next newer one become one of the next class. A byte ends at 255,
+    // which no window that started empty comes near.
+    fn merge(&mut self, at: usize)
+        requires { (at + 1 < self.old.count) × (self.old.count ≤ places) }
+        ensures { (self.new.count + 1 ≡ self.old.count) × (view self.new ≡ with_held (view self.old) (pair_merged at (held_of self.old))) }
+    {
+        self.buckets[at] = self.buckets[at].merged(self.buckets[at + 1]);
+        self.classes[at] = self.classes[at + 1].saturating_add(1);
+        self.close_gap(at + 1);
+    }
+
+    // One bucket more, the newest. Over the cap in a class, its two oldest become the newest of the
+    // next: k newer buckets are in the class of the one reached.
+    fn push_bucket(&mut self, new: Bucket)
+        requires { self.old.count < places }
+        ensures { (self.new.count ≤ places) × (view self.new ≡ with_held (view self.old) (push_of (held_of self.old) new)) }
     {
         let n = self.count;
         self.buckets[n] = new;
         self.classes[n] = 0;
         self.count = n + 1;
-        let mut i = n;
         let mut k = 0;
-        while i > 0 {
-            let j = i;
-            i -= 1;
-            let class = self.classes[j];
-            if self.classes[i] != class {
-                i = 0;
-            } else if k + 2 > Adwin::CAP {
-                let older = self.buckets[i];
-                let newer = self.buckets[j];
-                self.buckets[i] = older.merged(newer);
-                let next = next_class(class);
-                self.classes[i] = next;
-                let m = self.count - 1;
-                let mut q = j;
-                while q < m {
-                    let p = q + 1;
-                    let b = self.buckets[p];
-                    let c = self.classes[p];
-                    self.buckets[q] = b;
-                    self.classes[q] = c;
-                    q = p;
-                }
-                self.count = m;
+        for i in (0..n).rev() {
+            if self.classes[i] != self.classes[i + 1] {
+                return;
+            }
+            if k + 2 > Self::CAP {
+                self.merge(i);
                 k = 0;
             } else {
                 k += 1;
             }
         }
-        self
     }
 
-    // The window without its oldest bucket; the newer ones move down.
-    fn drop_oldest(mut self) -> Self
-        requires { (0 < self.count) × (self.count ≤ places) }
-        ensures { (result.count + 1 ≡ self.count) × (view result ≡ oldest_dropped (view self)) }
+    // The oldest bucket leaves the window.
+    fn drop_oldest(&mut self)
+        requires { (0 < self.old.count) × (self.old.count ≤ places) }
+        ensures { (self.new.count + 1 ≡ self.old.count) × (view self.new ≡ oldest_dropped (view self.old)) }
     {
         let gone = self.buckets[0];
-        let variance = variance_without(self.width, self.total, self.variance, gone);
-        let m = self.count - 1;
-        let mut q = 0;
-        while q < m {
-            let p = q + 1;
-            let b = self.buckets[p];
-            let c = self.classes[p];
-            self.buckets[q] = b;
-            self.classes[q] = c;
-            q = p;
+        self.variance = self.variance_without(gone);
+        self.width -= gone.size;
+        self.total -= gone.total;
+        self.close_gap(0);
+    }
+
+    // What the tests of all cuts of the window share.
+    fn cut_test(&self) -> CutTest
+        ensures { result ≡ test_of (sums_of self.now) (gOf self.now.delta self.now.width) }
+    {
+        CutTest {
+            side: Self::SIDE,
+            width: self.width,
+            total: self.total,
+            v: self.variance / self.width,
+            g: float::ln(2.0 * float::max(float::ln(self.width), 1.0) / self.delta),
         }
-        self.count = m;
-        self.width = self.width - gone.size;
-        self.total = self.total - gone.total;
-        self.variance = variance;
-        self
     }
 
     // Whether the window is wide enough for a cut, and one fails.
-    fn must_drop(self) -> bool
-        ensures { result ≡ must_drop self.delta (sums_of self) (buckets_of (held_of self)) }
+    fn must_drop(&self) -> bool
+        ensures { result ≡ must_drop self.now.delta (sums_of self.now) (buckets_of (held_of self.now)) }
     {
-        if self.width >= 2.0 * Adwin::SIDE {
-            let g = float::ln(2.0 * float::max(float::ln(self.width), 1.0) / self.delta);
-            let test = CutTest {
-                side: Adwin::SIDE,
-                width: self.width,
-                total: self.total,
-                v: self.variance / self.width,
-                g,
-            };
-            let buckets = self.buckets;
-            some_fails_in(test, buckets, self.count)
-        } else {
-            false
-        }
+        self.width >= 2.0 * Self::SIDE && some_fails(self.cut_test(), self.held())
     }
 
     // The cut search: the oldest bucket goes while a cut fails.
-    fn shrink(mut self) -> Updated
-        requires { self.count ≤ places }
-        ensures { told result ≡ shrunk (view self) }
+    fn shrink(&mut self) -> Verdict
+        requires { self.old.count ≤ places }
+        ensures { outcome_with (Ok result) self.new ≡ shrunk (view self.old) }
     {
-        let mut answer = Verdict::Quiet;
+        let mut verdict = Verdict::Quiet;
         while self.must_drop() {
-            self = self.drop_oldest();
-            answer = Verdict::Alarm;
+            self.drop_oldest();
+            verdict = Verdict::Alarm;
         }
-        Updated {
-            answer,
-            window: self,
-        }
+        verdict
     }
 
     // One value more, and on every 32nd a cut search.
-    pub fn update(self, value: f64) -> Updated
+    fn take(&mut self, value: f64) -> Result<Verdict, Full>
+        ensures window_after { outcome_with result self.new ≡ update_of (view self.old) value }
+        ensures refused { number_of result ≡ 8 → self.new ≡ self.old }
+        ensures ignored { is_finite value ≡ false → self.new ≡ self.old }
+    {
+        if !float::is_finite(value) {
+            return Ok(Verdict::Quiet);
+        }
+        if !self.has_room() {
+            return Err(Full);
+        }
+        self.push_bucket(Bucket::single(value));
+        self.variance = self.variance_with(value);
+        self.width += 1.0;
+        self.total += value;
+        self.taken += 1;
+        if self.since_check < Self::INTERVAL - 1 {
+            self.since_check += 1;
+            return Ok(Verdict::Quiet);
+        }
+        self.since_check = 0;
+        Ok(self.shrink())
+    }
+
+    // One value more: the answer, and the window after it.
+    pub fn update(mut self, value: f64) -> Updated
         ensures result_value { told result ≡ update_of (view self) value }
         ensures refused { number_of result.answer ≡ 8 → result.window ≡ self }
         ensures ignored { is_finite value ≡ false → result.window ≡ self }
     {
-        if !float::is_finite(value) {
-            return Updated {
-                answer: Verdict::Quiet,
-                window: self,
-            };
+        let answer = self.take(value);
+        Updated {
+            answer,
+            window: self,
         }
-        if !has_room(self.taken, self.count) {
-            return Updated {
-                answer: Verdict::Full,
-                window: self,
-            };
-        }
-        let variance = variance_with(self.width, self.total, self.variance, value);
-        let mut w = self.push_bucket(Bucket::single(value));
-        w.variance = variance;
-        w.width = w.width + 1.0;
-        w.total = w.total + value;
-        w.taken = w.taken + 1;
-        if w.since_check < Adwin::INTERVAL - 1 {
-            w.since_check = w.since_check + 1;
-            return Updated {
-                answer: Verdict::Quiet,
-                window: w,
-            };
-        }
-        w.since_check = 0;
-        w.shrink()
     }
 }

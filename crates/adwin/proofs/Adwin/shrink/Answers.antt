@@ -4,22 +4,21 @@ use Rattle.adwin.specs.View.{classed, sums_of}
 use Rattle.std.proofs.Common.{sym, ◌∙◌}
 use Rattle.adwin.proofs.Adwin.shrink.Goals as goal
 
-pub loop-answer-init : goal.loop-answer-init
-loop-answer-init c = search_starts c.args.self c.requires
+pub loop-verdict-init : goal.loop-verdict-init
+loop-verdict-init c = search_starts c.args.self.now c.requires
 
-pub drop_oldest-self-requires : goal.drop_oldest-self-requires
-drop_oldest-self-requires c =
-    let s = c.loop-answer.self in (
-      some_held s.delta (sums_of s) s.count (classed s.classes s.buckets)
-          (sym c.must_drop.ensures ∙ c.loop-answer-test.true),
-      c.loop-answer.invariant.room,
+pub drop_oldest-requires : goal.drop_oldest-requires
+drop_oldest-requires c =
+    let s = c.loop-verdict.self in (
+      some_held s.delta (sums_of s) s.count (classed s.classes s.buckets) (sym c.must_drop.ensures ∙ c.loop-verdict-test.true),
+      c.loop-verdict.invariant.room,
     )
 
-pub loop-answer-preserved : goal.loop-answer-preserved
-loop-answer-preserved c =
-    search_goes_on _ c.loop-answer.self c.loop-answer.answer _ c.loop-answer.invariant (sym c.must_drop.ensures ∙ c.loop-answer-test.true)
-    c.drop_oldest-self.ensures.0 c.drop_oldest-self.ensures.1
+pub loop-verdict-preserved : goal.loop-verdict-preserved
+loop-verdict-preserved c =
+    search_goes_on _ c.loop-verdict.self c.loop-verdict.verdict _ c.loop-verdict.invariant (sym c.must_drop.ensures ∙ c.loop-verdict-test.true)
+    c.drop_oldest.ensures.0 c.drop_oldest.ensures.1
 
 pub returns : goal.returns
 returns c =
-    search_ends _ c.loop-answer.self c.loop-answer.answer c.loop-answer.invariant (sym c.must_drop.ensures ∙ c.loop-answer-test.false)
+    search_ends _ c.loop-verdict.self c.loop-verdict.verdict c.loop-verdict.invariant (sym c.must_drop.ensures ∙ c.loop-verdict-test.false)

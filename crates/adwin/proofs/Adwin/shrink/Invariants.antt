@@ -3,8 +3,8 @@ use Rattle.adwin.proofs.Drops.{Searching}
 use Rattle.adwin.specs.View.{view}
 use Rattle.adwin.proofs.Adwin.shrink.Given as goal
 
-abbrev pub invariant-loop-answer : goal.invariant-loop-answer
-invariant-loop-answer l = Searching (view l.initial.self) l.self l.answer
+abbrev pub invariant-loop-verdict : goal.invariant-loop-verdict
+invariant-loop-verdict l = Searching (view l.initial.self) l.self l.verdict
 
-abbrev pub decreases-loop-answer : goal.decreases-loop-answer
-decreases-loop-answer l = l.self.count
+abbrev pub decreases-loop-verdict : goal.decreases-loop-verdict
+decreases-loop-verdict l = l.self.count
