@@ -52,8 +52,7 @@ impl DriftMonitor {
         let adwin = self.adwin;
         let updated = adwin.update(sqrt::sqrt(d2) / self.radius);
         let window = updated.window;
-        let answer = updated.answer;
-        if answer.rings() {
+        if updated.rings() {
             return DriftMonitor {
                 adwin: window,
                 radius: self.radius,
