@@ -1,9 +1,8 @@
 // A whole run of a window.
-ghost use Rattle.std.specs.Prelude.{◌≡◌, cond};
-ghost use Rattle.adwin.specs.View.{rings};
+ghost use Rattle.std.specs.Prelude.{◌≡◌};
 ghost use Rattle.whole_runs.specs.Window.{window_run};
 
-use adwin::{Adwin, Verdict};
+use adwin::Adwin;
 
 // The updates that rang, and the window after all of them: the values it took, its width, mean and variance.
 #[repr(C)]
@@ -16,32 +15,22 @@ pub struct WindowFigures {
     pub variance: f64,
 }
 
-// 1 for an update that rang.
-fn ring(answer: Verdict) -> u64
-    ensures { result ≡ cond (rings answer) 1 0 }
-{
-    if answer.rings() { 1 } else { 0 }
-}
-
 // A fresh window, and an update by each value in order.
 pub fn window_run(delta: f64, values: &[f64]) -> WindowFigures
     ensures { result ≡ window_run delta values.now }
 {
-    let mut w = Adwin::new(delta);
-    let mut alarms: u64 = 0;
-    let mut i: usize = 0;
-    while i < values.len() {
-        let u = w.update(values[i]);
-        w = u.window;
-        let answer = u.answer;
-        alarms += ring(answer);
-        i += 1;
+    let mut window = Adwin::new(delta);
+    let mut alarms = 0;
+    for value in values {
+        let updated = window.update(*value);
+        window = updated.window;
+        alarms += u64::from(updated.rings());
     }
     WindowFigures {
         alarms,
-        taken: w.taken,
-        width: w.width(),
-        mean: w.mean(),
-        variance: w.variance(),
+        taken: window.taken,
+        width: window.width(),
+        mean: window.mean(),
+        variance: window.variance(),
     }
 }

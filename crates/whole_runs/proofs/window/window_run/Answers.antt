@@ -1,35 +1,34 @@
 -- `window_run` meets its contract. Assumes nothing.
-use Prim.Native.Nat.{◌≤◌}
-use mathlib.Core.Path.{sym, subst, ap, ◌∙◌}
-use mathlib.Core.Bool.{cond}
+use mathlib.Core.Path.{◌≡◌, refl, sym, subst, ap, ◌∙◌}
+use mathlib.Core.Bool.{Bool, true, false, cond}
+use Rattle.std.specs.Int.{from_bool}
 use Rattle.adwin.specs.Window.{Window, Outcome, new_of}
-use Rattle.adwin.specs.View.{view, rings}
-use Rattle.whole_runs.specs.Laws.Window.{one_at_most, Going, going_start, going_on, going_end, run_figures}
-use borrow.Author.Rules.{rules}
+use Rattle.adwin.specs.View.{view}
+use Rattle.whole_runs.specs.Laws.Window.{Going, going_start, going_on, going_end, run_figures}
 use Rattle.whole_runs.proofs.window.window_run.Goals as goal
 
-pub loop-i-init : goal.loop-i-init
-loop-i-init c =
-    let a = c.args in
-    subst (λ (w : Window). Going a.values.now (new_of a.delta) w 0 0) (sym c.new-w.ensures) (going_start a.values.now (new_of a.delta))
+one_if : (b : Bool) → from_bool b ≡ cond b 1 0
+one_if true = refl
+one_if false = refl
 
-pub overflow_add-alarms : goal.overflow_add-alarms
-overflow_add-alarms c =
-    let k : c.ring-alarms.result ≤ 1 = rw c.ring-alarms.ensures (one_at_most (rings c.update-u.result.answer)) in search rules
-
-pub loop-i-preserved : goal.loop-i-preserved
-loop-i-preserved c =
+pub loop-value-init : goal.loop-value-init
+loop-value-init c =
     let a = c.args in
-    let l = c.loop-i in
-    let u = c.update-u in
-    going_on a.values.now (new_of a.delta) (view l.w) (view u.result.window) l.alarms l.i c.ring-alarms.result _
-    l.invariant c.loop-i-test.true
-    (ap (λ (o : Outcome). o.window) u.ensures.result_value) (c.ring-alarms.ensures ∙ ap (λ (o : Outcome). cond o.alarm 1 0) u.ensures.result_value)
+    subst (λ (w : Window). Going a.values.now (new_of a.delta) w 0 0) (sym c.new-window.ensures) (going_start a.values.now (new_of a.delta))
+
+pub loop-value-preserved : goal.loop-value-preserved
+loop-value-preserved c =
+    let a = c.args in
+    let l = c.loop-value in
+    let u = c.update-updated in
+    going_on a.values.now (new_of a.delta) (view l.window) (view u.result.window) l.alarms l.value-index c.from-alarms.result _
+    l.invariant c.loop-value-test.true
+    (ap (λ (o : Outcome). o.window) u.ensures.result_value)
+    (c.from-alarms.ensures ∙ ap from_bool (c.rings.ensures ∙ ap (λ (o : Outcome). o.alarm) u.ensures.result_value) ∙ one_if _)
 
 pub returns : goal.returns
 returns c =
     let a = c.args in
-    let l = c.loop-i in
-    let e = going_end a.values.now (new_of a.delta) (view l.w) l.alarms l.i l.invariant c.loop-i-test.false in
-    let width = c.width.ensures in
-    run_figures a.values.now (new_of a.delta) (view l.w) _ _ _ _ e width c.mean.ensures c.variance.ensures
+    let l = c.loop-value in
+    let e = going_end a.values.now (new_of a.delta) (view l.window) l.alarms l.value-index l.invariant c.loop-value-test.false in
+    run_figures a.values.now (new_of a.delta) (view l.window) _ _ _ _ e c.width.ensures c.mean.ensures c.variance.ensures
