@@ -1,16 +1,16 @@
 // A window near the end of the values that it takes.
 use crate::output::{number, put, whole};
-use adwin::{Adwin, Bucket, PLACES, Verdict};
+use adwin::{Adwin, Bucket, Full, PLACES, Verdict};
 
 // The buckets of the fullest window: 6 of each class up to 36 and 2 of class 37.
 const MOST: usize = 224;
 
 // An update's line: the answer, the values taken, the width and the buckets.
-fn say(answer: Verdict, taken: u64, width: f64, count: usize) {
+fn say(answer: Result<Verdict, Full>, taken: u64, width: f64, count: usize) {
     match answer {
-        Verdict::Quiet => put(b"quiet"),
-        Verdict::Alarm => put(b"alarm"),
-        Verdict::Full => put(b"refused 8"),
+        Ok(Verdict::Quiet) => put(b"quiet"),
+        Ok(Verdict::Alarm) => put(b"alarm"),
+        Err(Full) => put(b"refused 8"),
     }
     number(taken);
     whole(width);
