@@ -2,7 +2,7 @@
 use crate::answers::{say_none, say_ok};
 use crate::input::Record;
 use crate::output::{double, end, number, say, start};
-use adwin::{Adwin, Verdict};
+use adwin::{Adwin, Full, Verdict};
 use adwin_lent::updated;
 
 // The current window, once one is open.
@@ -18,11 +18,11 @@ pub fn watching(delta: f64, open: bool) -> Watched {
     Watched { window, open }
 }
 
-fn say_verdict(answer: Verdict) {
+fn say_verdict(answer: Result<Verdict, Full>) {
     match answer {
-        Verdict::Quiet => say(b"quiet"),
-        Verdict::Alarm => say(b"alarm"),
-        Verdict::Full => say(b"refused 8"),
+        Ok(Verdict::Quiet) => say(b"quiet"),
+        Ok(Verdict::Alarm) => say(b"alarm"),
+        Err(Full) => say(b"refused 8"),
     }
 }
 
