@@ -1,2 +1,2 @@
 -- What the proofs of words share.
-pub mod Turns
+pub mod Padded

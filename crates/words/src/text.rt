@@ -16,12 +16,10 @@ pub fn double_text(x: f64) -> Text
     ensures prefix_len { IsPrefixLen result.len result.bytes }
 {
     let mut bytes = [0u8; 16];
-    if x != x {
-        bytes[0] = b'n';
-        bytes[1] = b'a';
-        bytes[2] = b'n';
+    if x.is_nan() {
+        bytes[..3].copy_from_slice(b"nan");
         return Text { bytes, len: 3 };
     }
-    let len = io::hex(f64::to_bits(x), 16, &mut bytes);
+    let len = io::hex(x.to_bits(), 16, &mut bytes);
     Text { bytes, len }
 }

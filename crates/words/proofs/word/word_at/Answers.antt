@@ -1,32 +1,17 @@
 -- `word_at` meets its contract. Assumes nothing.
-use native.Mathlib.Omega.{arith}
-use Prim.Native.Nat.{ℕ}
-use mathlib.Core.Path.{◌≡◌, sym, ap, ◌∙◌}
-use Rattle.words.specs.Word.{little_endian}
-use Rattle.words.proofs.Turns.{none_read, fits, byte_read, word_past}
+use Rattle.std.proofs.Common.{⊎_elim, ap, ◌∙◌, arith}
+use Rattle.std.proofs.lemmas.Slice.{between_to_end}
+use Rattle.std.specs.Int.{from_le_bytes}
+use mir.Syntax.{w64}
+use Rattle.words.proofs.Padded.{here, beyond}
+use Rattle.words.proofs.word.word_at.Goals.{in-Some, in_default}
 use Rattle.words.proofs.word.word_at.Goals as goal
-
-pub returns-then-bytes-at : goal.returns-then-bytes-at
-returns-then-bytes-at c = sym (word_past 8 c.args.bytes.now c.args.at (omega arith))
-
-pub loop-k-init : goal.loop-k-init
-loop-k-init c = none_read c.args.bytes.now c.args.at
-
-pub overflow_mul-value : goal.overflow_mul-value
-overflow_mul-value c = omega (arith, fits c.loop-k.invariant c.loop-k-test.true)
-
-pub overflow_add-value : goal.overflow_add-value
-overflow_add-value c = omega (arith, fits c.loop-k.invariant c.loop-k-test.true, c.byte_at.ensures.1)
-
-pub loop-k-preserved : goal.loop-k-preserved
-loop-k-preserved c =
-    let a = c.args in
-    let l = c.loop-k in
-    let b = c.byte_at in
-    byte_read a.bytes.now a.at l.value l.k b.result l.invariant c.loop-k-test.true b.ensures.0 b.ensures.1
 
 pub returns : goal.returns
 returns c =
-    let l = c.loop-k in
-    let e : l.k ≡ 0 = omega arith in
-    l.invariant.is ∙ rw e (ap (λ (i : ℕ). little_endian 8 c.args.bytes.now i) (omega arith))
+    let bytes = c.args.bytes.now in
+    let at = c.args.at in
+    elim c.match-get.branch [
+      | in-Some w ↦ c.from_le_bytes.ensures ∙ here c.match-get.word _ _ bytes at _ w.min-n.ensures (w.copy_from_slice.ensures.after) w.word-is (w.in-Some.ensures.lookup.0.2 ∙ between_to_end bytes at _ (omega arith))
+      | in_default w ↦ c.from_le_bytes.ensures ∙ ap (from_le_bytes w64) w.word-is ∙ beyond bytes at (⊎_elim (λ h. h) (λ h. absurd (omega arith)) w.in_default.ensures.lookup.0)
+    ]
