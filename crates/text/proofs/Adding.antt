@@ -1,31 +1,13 @@
--- A piece is added byte by byte, as far as the room goes. Assumes nothing.
-use Prim.Native.Nat.{ℕ, suc, ◌+◌, ◌-◌, ◌≤◌, ◌<◌, min}
-use mathlib.Core.Path.{◌≡◌, sym, ap, ◌∙◌}
-use mathlib.Core.List.{List, [], ◌∷◌, ◌++◌, append_assoc}
-use mathlib.Core.Logic.{inl, by_cases}
-use native.Mathlib.Decide.{dec_le}
-use native.Mathlib.Numerals.{add-one}
-use native.Mathlib.Omega.{arith}
-use lib.ListN.{length, take, get_or, set, length-append, length-take}
-use lib.Seq.{take_all, take-suc, take-suc-set, take-length, take-take, take-append-add, length-take-le}
+-- A piece is copied behind a text, as far as the room goes. Assumes nothing.
+use Rattle.std.proofs.Common.{◌≡◌, ℕ, ◌+◌, ◌-◌, ◌≤◌, List, ◌++◌, min, length, take, length-append, length-take, take_all, sym, ap, ◌∙◌, inl, arith}
+use Rattle.std.proofs.Math.Logic.{by_cases}
+use Rattle.std.proofs.Math.Decide.{dec_le}
+use Rattle.std.proofs.Math.Seq.{take-length, take-take, take-append-add, length-take-le}
+use Rattle.std.proofs.lemmas.Slice.{take-put_mid}
+use borrow.Rule.Slice.PartMut.{put_mid}
 use Rattle.lists.specs.Laws.Rest.{cut_take}
 use Rattle.text.specs.declared.text.Text.{Text}
 use Rattle.text.specs.Text.{room, Added}
-
--- one byte more
-pub byte_more :
-    (before : List ℕ) (at : ℕ) (piece bytes : List ℕ) (i : ℕ) →
-    at + i < length bytes →
-    i < length piece →
-    take (at + i) bytes ≡ take at before ++ take i piece →
-    take (at + (i + 1)) (set bytes (at + i) (get_or piece i 0)) ≡ take at before ++ take (i + 1) piece
-byte_more before at piece bytes i h k e =
-    let n : at + (i + 1) ≡ suc (at + i) = omega arith in
-    ap (λ (j : ℕ). take j (set bytes (at + i) (get_or piece i 0))) n
-    ∙ take-suc-set bytes (at + i) (get_or piece i 0) h
-    ∙ ap (λ (f : List ℕ). f ++ get_or piece i 0 ∷ []) e
-    ∙ append_assoc (take at before) (take i piece) (get_or piece i 0 ∷ [])
-    ∙ ap (λ (f : List ℕ). take at before ++ f) (sym (take-suc piece i 0 k) ∙ ap (λ (j : ℕ). take j piece) (sym (add-one i)))
 
 short : (m n : ℕ) (p : List ℕ) → n ≡ min (length p) m → take m (take n p) ≡ take m p
 short m n p e = by_cases (dec_le (length p) m)
@@ -48,16 +30,20 @@ cut_piece a p at n l h e =
     ∙ ap (λ (k : ℕ). take k (a ++ p)) (sym r)
 
 pub added :
-    (text : Text) (at n : ℕ) (piece bytes : List ℕ) → length text.bytes ≡ room → at ≡ min text.len room → n ≡ min (length piece) (room - at) →
-    take (at + n) bytes ≡ take at text.bytes ++ take n piece → Added text piece (record { bytes = bytes; len = at + n })
-added text at n piece bytes l a k e =
+    (text : Text) (at n : ℕ) (piece copied : List ℕ) → length text.bytes ≡ room → at ≡ min text.len room → n ≡ min (length piece) (room - at) →
+    copied ≡ take n piece →
+    Added text piece (record { bytes = put_mid at (at + n - at) text.bytes copied; len = at + n })
+added text at n piece copied l a k e =
     let h : at ≤ room = omega arith in
     let m : at + n ≤ room = omega arith in
-    let q = length-append (take at text.bytes) (take n piece) in
+    let c : length copied ≡ n = ap length e ∙ length-take-le n piece (omega arith) in
+    let w : at + n ≡ at + length copied = omega arith in
+    let b = length-append (take at text.bytes) (take n piece) in
     record {
       is =
-          e
-          ∙ sym (take_all room (take at text.bytes ++ take n piece) (omega (arith, q, length-take at text.bytes, length-take n piece)))
+          take-put_mid at (at + n - at) text.bytes copied (at + n) w (omega arith)
+          ∙ ap (λ (f : List ℕ). take at text.bytes ++ f) e
+          ∙ sym (take_all room (take at text.bytes ++ take n piece) (omega (arith, b, length-take at text.bytes, length-take n piece)))
           ∙ cut_piece (take at text.bytes) piece at n (length-take-le at text.bytes (omega arith)) h k
           ∙ ap (λ (f : List ℕ). take room (f ++ piece)) (cut_take at text.len room text.bytes a l);
       len = inl m;

@@ -1,26 +1,21 @@
 -- Bytes in a lent slice. Definitions only.
-use Rattle.std.specs.Prelude.{ℕ, List, [], ◌∷◌, length}
+use Rattle.std.specs.Prelude.{ℕ, List, [], ◌∷◌, Result, Ok, Err, length}
 use Rattle.model.specs.Answers.{Said, gives, refuses}
 use Rattle.model.specs.Questions.{first_no}
 use Rattle.model.specs.ReadOut.{has_places, written}
-use Rattle.text.specs.declared.writing.Writing.{Writing}
-use Rattle.text.specs.declared.writing.Writing.TheVariants.{Written, TooShort}
+use Rattle.text.specs.declared.writing.TooShort.{TooShort}
 
 -- "A refusal carries its number": 10, or how many bytes were written
-abbrev pub writing_said : Writing → Said ℕ
-writing_said (Written n) = gives n
-writing_said TooShort = refuses 10 []
-
-abbrev pub written_bytes : Writing → ℕ
-written_bytes (Written n) = n
-written_bytes TooShort = 0
+abbrev pub writing_said : Result ℕ TooShort → Said ℕ
+writing_said (Ok n) = gives n
+writing_said (Err e) = refuses 10 []
 
 -- the answer, and the lent slice afterwards
 pub record TextWritten : Type 0 where
   pub said : Said ℕ
   pub output : List ℕ
 
-abbrev pub write_told : Writing → List ℕ → TextWritten
+abbrev pub write_told : Result ℕ TooShort → List ℕ → TextWritten
 write_told answer output = record { said = writing_said answer; output = output }
 
 -- "has every lent slice a place for each element due? No: 10. Elements beyond those written stay."

@@ -1,9 +1,11 @@
-// A text that grows piece by piece, by value; what its room cannot take is cut off.
-ghost use Rattle.std.specs.Prelude.{◌≡◌, [], ◌∷◌};
+// A text that grows piece by piece; what its room cannot take is cut off.
+ghost use Rattle.std.specs.Prelude.{◌≡◌, ◌≤◌, [], ◌∷◌, length, IfOk};
 ghost use Rattle.text.specs.Text.{text_of, Added, blanks};
+ghost use Rattle.text.specs.Decimal.{decimal, integer, right};
 ghost use Rattle.text.specs.Lent.{write_told, write_of};
 
-use crate::writing::{Writing, write};
+use crate::writing::{TooShort, write};
+use itoa::Buffer;
 
 // Room for every text of the programs: `families` has 64 lines of at most 43 bytes and a last one of at most 56, a picture at most 9,628 bytes.
 pub const ROOM: usize = 16384;
@@ -15,60 +17,75 @@ pub struct Text {
     pub len: usize,
 }
 
-// A text with nothing in it.
-pub fn blank() -> Text
-    ensures result_value { text_of result ≡ [] }
-    ensures len_value { result.len ≡ 0 }
-{
-    Text {
-        bytes: [0u8; ROOM],
-        len: 0,
-    }
-}
-
-// The piece at the end of the text; what the room cannot take is cut off.
-pub fn add(text: Text, piece: &[u8]) -> Text
-    ensures { Added text piece.now result }
-{
-    let mut bytes = text.bytes;
-    let at = lists::cut(text.len, ROOM);
-    let n = lists::cut(piece.len(), ROOM - at);
-    let mut i: usize = 0;
-    while i < n {
-        bytes[at + i] = piece[i];
-        i += 1;
-    }
-    Text { bytes, len: at + n }
-}
-
-// One byte at the end.
-pub fn add_byte(text: Text, byte: u8) -> Text
-    ensures { Added text (byte ∷ []) result }
-{
-    let piece = [byte];
-    add(text, &piece)
-}
-
-// n blanks at the end.
-pub fn add_blanks(text: Text, n: usize) -> Text
-    ensures { Added text (blanks n) result }
-{
-    let mut t = text;
-    let mut i: usize = 0;
-    while i < n {
-        t = add_byte(t, b' ');
-        i += 1;
-    }
-    t
-}
-
+// Methods and no `write!`: of it std's contracts say what was written only where the writer did not fail, and they know no writer that never fails.
 impl Text {
-    // All of it at the start of the output, if that has a place for each byte.
-    pub fn write(self, output: &mut [u8]) -> Writing
-        ensures { write_told result output.new ≡ write_of (text_of self) output.old }
+    // A text with nothing in it.
+    pub fn new() -> Self
+        ensures empty { text_of result ≡ [] }
+        ensures len { result.len ≡ 0 }
     {
-        let bytes = self.bytes;
-        let n = lists::cut(self.len, ROOM);
-        write(&bytes[..n], output)
+        Self {
+            bytes: [0; ROOM],
+            len: 0,
+        }
+    }
+
+    // The piece at the end of the text; what the room cannot take is cut off.
+    pub fn add(&mut self, piece: &[u8])
+        ensures { Added self.old piece.now self.new }
+    {
+        let at = self.len.min(ROOM);
+        let n = piece.len().min(ROOM - at);
+        self.bytes[at..at + n].copy_from_slice(&piece[..n]);
+        self.len = at + n;
+    }
+
+    // One byte at the end.
+    pub fn add_byte(&mut self, byte: u8)
+        ensures { Added self.old (byte ∷ []) self.new }
+    {
+        self.add(&[byte]);
+    }
+
+    // n blanks at the end.
+    pub fn add_blanks(&mut self, n: usize)
+        ensures { Added self.old (blanks n) self.new }
+    {
+        for _i in 0..n {
+            self.add_byte(b' ');
+        }
+    }
+
+    // The digits, no zero in front.
+    pub fn add_number(&mut self, n: u64)
+        ensures { Added self.old (decimal n) self.new }
+    {
+        self.add(Buffer::new().format(n).as_bytes());
+    }
+
+    // A sign if it is below 0, and the digits.
+    pub fn add_integer(&mut self, n: i64)
+        ensures { Added self.old (integer n) self.new }
+    {
+        self.add(Buffer::new().format(n).as_bytes());
+    }
+
+    // A sign and a number of at least as many places as the width says, blanks in front.
+    pub fn add_right(&mut self, width: usize, sign: u8, n: u64)
+        ensures { Added self.old (right width sign n) self.new }
+    {
+        let mut buffer = Buffer::new();
+        let digits = buffer.format(n).as_bytes();
+        self.add_blanks(width.saturating_sub(digits.len()));
+        self.add_byte(sign);
+        self.add(digits);
+    }
+
+    // All of it at the start of the output, if that has a place for each byte.
+    pub fn write(&self, output: &mut [u8]) -> Result<usize, TooShort>
+        ensures told { write_told result output.new ≡ write_of (text_of self.now) output.old }
+        ensures in_bounds { IfOk result (λ n. n ≤ length output.new) }
+    {
+        write(&self.bytes[..self.len.min(ROOM)], output)
     }
 }

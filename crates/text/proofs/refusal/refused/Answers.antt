@@ -1,5 +1,5 @@
 -- `refused` meets its contract. Assumes nothing.
-use native.Mathlib.Omega.{arith}
+use Rattle.std.proofs.Common.{arith}
 use Rattle.text.specs.Ascii.{ascii}
 use Rattle.text.specs.Text.{Added}
 use Rattle.text.specs.Refusal.{refused_line}
@@ -11,6 +11,5 @@ pub returns : goal.returns
 returns c =
     let n = c.args.number in
     let fits = beside (beside (piece (ascii "refused ")) (number_within n (omega arith))) (piece (ascii "\n")) in
-    let b = c.blank in
-    let line : Added b.result (refused_line n) c.add.result = search both in
-    from_blank b.ensures.result_value line (omega (arith, fits.is))
+    let line : Added c.new-line.result (refused_line n) c.add-2.new.self = search both in
+    from_blank c.new-line.ensures.empty line (omega (arith, fits.is))
