@@ -1,16 +1,18 @@
 // The one reader of the programs that take a session from standard input.
 #![tactic(auto)]
 
+ghost use Rattle.std.specs.Prelude.{◌≤◌, length, IfOk};
 ghost use Rattle.io.specs.Counts.{IsPrefixLen};
 ghost use Rattle.input.specs.Read.{Read};
 
 use std::io::Read;
-use text::Writing;
+use text::TooShort;
 
 // One byte more than an input may have.
 pub const ROOM: usize = 65537;
 
-// Until the input ends or the room is full; where a read fails, no bytes, which are no input.
+// Until the input ends or the room is full; where a read fails, no bytes, which are no input. A loop over the reads: std's own go on
+// into a Vec or want a whole slice full.
 fn read_all<R: Read>(reader: &mut R, room: &mut [u8]) -> usize
     ensures { IsPrefixLen result room.new }
 {
@@ -28,8 +30,9 @@ fn read_all<R: Read>(reader: &mut R, room: &mut [u8]) -> usize
 }
 
 // The bytes of a whole input, or the first ROOM of them; none where a read fails. What they are no contract can say.
-pub fn read<R: Read>(reader: &mut R, room: &mut [u8]) -> Writing
-    ensures { Read result room.old room.new }
+pub fn read<R: Read>(reader: &mut R, room: &mut [u8]) -> Result<usize, TooShort>
+    ensures told { Read result room.old room.new }
+    ensures in_bounds { IfOk result (λ n. n ≤ length room.new) }
 {
     let mut bytes = [0u8; ROOM];
     let n = read_all(reader, &mut bytes);
