@@ -1,5 +1,5 @@
 -- A piece is copied behind a text, as far as the room goes. Assumes nothing.
-use Rattle.std.proofs.Common.{◌≡◌, ℕ, ◌+◌, ◌-◌, ◌≤◌, List, ◌++◌, min, length, take, length-append, length-take, take_all, sym, ap, ◌∙◌, inl, arith}
+use Rattle.std.proofs.Common.{◌≡◌, ℕ, ◌+◌, ◌-◌, ◌≤◌, List, ◌++◌, min, length, take, length-append, length-take, take_all, sym, ap, ap₂, ◌∙◌, inl, arith}
 use Rattle.std.proofs.Math.Logic.{by_cases}
 use Rattle.std.proofs.Math.Decide.{dec_le}
 use Rattle.std.proofs.Math.Seq.{take-length, take-take, take-append-add, length-take-le}
@@ -30,21 +30,25 @@ cut_piece a p at n l h e =
     ∙ ap (λ (k : ℕ). take k (a ++ p)) (sym r)
 
 pub added :
-    (text : Text) (at n : ℕ) (piece copied : List ℕ) → length text.bytes ≡ room → at ≡ min text.len room → n ≡ min (length piece) (room - at) →
+    (text after : Text) (at n : ℕ) (piece copied : List ℕ) → at ≡ min text.len room → n ≡ min (length piece) (room - at) →
     copied ≡ take n piece →
-    Added text piece (record { bytes = put_mid at (at + n - at) text.bytes copied; len = at + n })
-added text at n piece copied l a k e =
+    after.bytes ≡ put_mid at (at + n - at) text.bytes copied →
+    after.len ≡ at + n →
+    Added text piece after
+added text after at n piece copied a k e b s =
     let h : at ≤ room = omega arith in
     let m : at + n ≤ room = omega arith in
     let c : length copied ≡ n = ap length e ∙ length-take-le n piece (omega arith) in
     let w : at + n ≡ at + length copied = omega arith in
-    let b = length-append (take at text.bytes) (take n piece) in
+    let q = length-append (take at text.bytes) (take n piece) in
+    let f : length text.bytes ≡ room = text.full in
     record {
       is =
-          take-put_mid at (at + n - at) text.bytes copied (at + n) w (omega arith)
+          ap₂ (λ (i : ℕ) (l : List ℕ). take i l) s b
+          ∙ take-put_mid at (at + n - at) text.bytes copied (at + n) w (omega arith)
           ∙ ap (λ (f : List ℕ). take at text.bytes ++ f) e
-          ∙ sym (take_all room (take at text.bytes ++ take n piece) (omega (arith, b, length-take at text.bytes, length-take n piece)))
+          ∙ sym (take_all room (take at text.bytes ++ take n piece) (omega (arith, q, length-take at text.bytes, length-take n piece)))
           ∙ cut_piece (take at text.bytes) piece at n (length-take-le at text.bytes (omega arith)) h k
-          ∙ ap (λ (f : List ℕ). take room (f ++ piece)) (cut_take at text.len room text.bytes a l);
-      len = inl m;
+          ∙ ap (λ (f : List ℕ). take room (f ++ piece)) (cut_take at text.len room text.bytes a text.full);
+      len = inl (omega arith);
     }

@@ -1,8 +1,5 @@
 // A text that grows piece by piece; what its room cannot take is cut off.
 ghost use Rattle.std.specs.Prelude.{◌≡◌, ◌≤◌, [], ◌∷◌, length, IfOk};
-ghost use Rattle.text.specs.Text.{text_of, Added, blanks};
-ghost use Rattle.text.specs.Decimal.{decimal, integer, right};
-ghost use Rattle.text.specs.Lent.{write_told, write_of};
 
 use crate::writing::{TooShort, write};
 use itoa::Buffer;
@@ -15,10 +12,15 @@ pub const ROOM: usize = 16384;
 pub struct Text {
     pub bytes: [u8; ROOM],
     pub len: usize,
+    ghost full: { length bytes ≡ 16384 },
 }
 
 // Methods and no `write!`: of it std's contracts say what was written only where the writer did not fail, and they know no writer that never fails.
 impl Text {
+    ghost use Rattle.text.specs.Text.{text_of, Added, blanks};
+    ghost use Rattle.text.specs.Decimal.{decimal, integer, right};
+    ghost use Rattle.text.specs.Lent.{write_told, write_of};
+
     // A text with nothing in it.
     pub fn new() -> Self
         ensures empty { text_of result ≡ [] }

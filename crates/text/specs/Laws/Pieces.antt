@@ -1,7 +1,6 @@
 -- Pieces one after another are one piece. Assumes nothing.
-use Rattle.std.specs.Prelude.{ℕ, zero, suc, ◌+◌, ◌≤◌, ◌≡◌, refl, List, [], ◌∷◌, ◌++◌, map, length, take}
+use Rattle.std.specs.Prelude.{ℕ, zero, suc, ◌+◌, ◌≤◌, ◌≡◌, refl, List, [], ◌∷◌, ◌++◌, length, take}
 use Rattle.std.proofs.Common.{sym, ap, ◌∙◌, subst, inl, inr, ⊎_elim, append-nil, append_assoc, add-one, arith, length-take, take_all}
-use Rattle.std.proofs.lemmas.List.{length-map}
 use Rattle.text.specs.declared.text.Text.{Text}
 use Rattle.text.specs.Text.{room, text_of, Added, each}
 
@@ -10,15 +9,11 @@ take_front zero u q = refl
 take_front (suc n) [] q = refl
 take_front (suc n) (x ∷ u) q = ap (λ (t : List ℕ). x ∷ t) (take_front n u q)
 
--- a text's room, told of the bytes as the machine keeps them
-pub roomy : {B : Type 0} (t : Text) (f : ℕ → B) → length (map f t.bytes) ≡ room → length t.bytes ≡ room
-roomy t f e = sym (length-map t.bytes f) ∙ e
-
 -- nothing is added to a text as it was given
-pub nothing : (t : Text) → length t.bytes ≡ room → Added t [] t
-nothing t l =
+pub nothing : (t : Text) → Added t [] t
+nothing t =
     record {
-      is = sym (ap (take room) (append-nil (text_of t)) ∙ take_all room (text_of t) (omega (arith, length-take t.len t.bytes)));
+      is = sym (ap (take room) (append-nil (text_of t)) ∙ take_all room (text_of t) (omega (arith, t.full, length-take t.len t.bytes)));
       len = inr refl;
     }
 
@@ -38,9 +33,9 @@ both {t} {u} {v} {p} {q} a b =
     }
 
 -- many pieces: none at first, then one more
-pub first : (f : ℕ → List ℕ) (t : Text) → length t.bytes ≡ room → Added t (each f 0) t
+pub first : (f : ℕ → List ℕ) (t : Text) → Added t (each f 0) t
 unfolding each
-first f t l = nothing t l
+first f t = nothing t
 
 pub more : (f : ℕ → List ℕ) (i : ℕ) {t u v : Text} → Added t (each f i) u → Added u (f i) v → Added t (each f (i + 1)) v
 unfolding each

@@ -5,7 +5,7 @@ use Rattle.text.specs.Laws.Pieces.{first, more, ended}
 use Rattle.text.proofs.text.Text.add_blanks.Goals as goal
 
 pub loop-i-init : goal.loop-i-init
-loop-i-init c = first (λ (i : ℕ). ascii " ") c.args.self.now (omega arith)
+loop-i-init c = first (λ (i : ℕ). ascii " ") c.args.self.now
 
 pub loop-i-preserved : goal.loop-i-preserved
 loop-i-preserved c = more (λ (i : ℕ). ascii " ") c.loop-i._i c.loop-i.invariant c.add_byte.ensures
