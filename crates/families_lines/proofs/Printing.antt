@@ -1,61 +1,60 @@
 -- Lines one after another, and how long they are. Assumes nothing.
-use Prim.Native.Nat.{ℕ, zero, suc, ◌+◌, ◌*◌, ◌^◌, ◌<◌}
-use mathlib.Core.Path.{◌≡◌, sym, ap, ◌∙◌}
-use mathlib.Core.List.{List, [], ◌∷◌, ◌++◌, append-nil, append_assoc}
-use native.Mathlib.Numerals.{add-one}
-use native.Mathlib.Omega.{arith}
-use lib.IntN.{ℤ}
-use lib.ListN.{length, take, get_or}
-use lib.Signed.{mag}
+use Rattle.std.proofs.Common.{◌≡◌, ℕ, ◌+◌, ◌*◌, ◌^◌, ◌<◌, ◌≤◌, ◌⊎◌, ⊎_elim, List, [], ◌∷◌, ◌++◌, ℤ, length, length-append, append-nil, append_assoc, refl, sym, ap, ap₂, ◌∙◌, arith}
+use Rattle.std.specs.Int.Signed.{mag}
 use Rattle.drift.specs.declared.DriftReport.{DriftReport}
 use Rattle.model.specs.declared.micro.MicroId.{MicroId}
 use Rattle.text.specs.declared.text.Text.{Text}
 use Rattle.text.specs.Ascii.{ascii}
-use Rattle.text.specs.Text.{room, Added, Within}
+use Rattle.text.specs.Text.{Added, Within}
 use Rattle.text.specs.Laws.Pieces.{nothing, both, worded}
 use Rattle.text.specs.Laws.Sizes.{piece, beside, number_within, integer_within}
 use Rattle.families_lines.specs.Lines.{line_of, lines_of, last_line}
 
-lines_suc :
-    (i : ℕ) (ids : List MicroId) (labels : List ℤ) (d : MicroId) (z : ℤ) → i < length ids → i < length labels →
-    lines_of (take i ids) (take i labels) ++ line_of (get_or ids i d) (get_or labels i z) ≡ lines_of (take (suc i) ids) (take (suc i) labels)
-unfolding lines_of
-lines_suc i [] labels d z h k = absurd (omega arith)
-lines_suc i (id ∷ ids) [] d z h k = absurd (omega arith)
-lines_suc zero (id ∷ ids) (label ∷ labels) d z h k = sym (append-nil (line_of id label))
-lines_suc (suc i) (id ∷ ids) (label ∷ labels) d z h k =
-    append_assoc (line_of id label) (lines_of (take i ids) (take i labels)) (line_of (get_or ids i d) (get_or labels i z))
-    ∙ ap (λ (t : List ℕ). line_of id label ++ t) (lines_suc i ids labels d z (omega arith) (omega arith))
+-- the lines so far, those of the creation numbers and labels that are left, and how long they may be
+pub record Lined (t : Text) (ids : List MicroId) (labels : List ℤ) (ids_left : List MicroId) (labels_left : List ℤ) (u : Text) : Type 0 where
+  pub done : List ℕ
+  pub added : Added t done u
+  pub left : done ++ lines_of ids_left labels_left ≡ lines_of ids labels
+  pub within : length done + 43 * length ids_left ≤ 43 * length ids
 
--- i lines are added
-pub record Lined (t : Text) (ids : List MicroId) (labels : List ℤ) (i : ℕ) (u : Text) : Type 0 where
-  pub added : Added t (lines_of (take i ids) (take i labels)) u
-  pub within : Within (lines_of (take i ids) (take i labels)) (43 * i)
-
-pub no_lines : (t : Text) (ids : List MicroId) (labels : List ℤ) → length t.bytes ≡ room → Lined t ids labels 0 t
-unfolding lines_of
-no_lines t ids labels l = record { added = nothing t l; within = record { is = omega arith } }
+pub no_lines :
+    (t : Text) {ids ids_left : List MicroId} {labels labels_left : List ℤ} → ids_left ≡ ids → labels_left ≡ labels →
+    Lined t ids labels ids_left labels_left t
+no_lines t e f =
+    record { done = []; added = nothing t; left = ap₂ lines_of e f; within = omega (arith, ap length e) }
 
 pub lines_more :
-    {t u v : Text} {label : ℤ} (i : ℕ) (ids : List MicroId) (labels : List ℤ) (d : MicroId) (z : ℤ) →
-    i < length ids →
-    i < length labels →
-    Lined t ids labels i u →
-    Added u (line_of (get_or ids i d) label) v →
-    Within (line_of (get_or ids i d) label) 43 →
-    label ≡ get_or labels i z →
-    Lined t ids labels (i + 1) v
-lines_more {t} {u} {v} {label} i ids labels d z h k p q w e =
-    let line = line_of (get_or ids i d) label in
-    let s : lines_of (take i ids) (take i labels) ++ line_of (get_or ids i d) label ≡ lines_of (take (i + 1) ids) (take (i + 1) labels) =
-    ap (λ (l : ℤ). lines_of (take i ids) (take i labels) ++ line_of (get_or ids i d) l) e
-    ∙ lines_suc i ids labels d z h k
-    ∙ ap (λ (n : ℕ). lines_of (take n ids) (take n labels)) (sym (add-one i))
-    in
+    {t u v : Text} {ids ids_left rest : List MicroId} {labels labels_left more : List ℤ} (id : MicroId) (label : ℤ) →
+    Lined t ids labels ids_left labels_left u →
+    ids_left ≡ id ∷ rest →
+    labels_left ≡ label ∷ more →
+    Added u (line_of id label) v →
+    Within (line_of id label) 43 →
+    Lined t ids labels rest more v
+unfolding lines_of
+lines_more {rest = rest} {more = more} id label p e f q w =
     record {
-      added = worded s (both p.added q);
-      within = record { is = omega (arith, ap length s, (beside p.within w).is) };
+      done = p.done ++ line_of id label;
+      added = both p.added q;
+      left = append_assoc p.done (line_of id label) (lines_of rest more) ∙ sym (ap₂ (λ (is : List MicroId) (ls : List ℤ). p.done ++ lines_of is ls) e f) ∙ p.left;
+      within = omega (arith, length-append p.done (line_of id label), w.is, p.within, ap length e);
     }
+
+-- and all of them at last
+none_left : (ids : List MicroId) (labels : List ℤ) → (ids ≡ []) ⊎ (labels ≡ []) → lines_of ids labels ≡ []
+unfolding lines_of
+none_left [] labels h = refl
+none_left (id ∷ ids) [] h = refl
+none_left (id ∷ ids) (label ∷ labels) h = ⊎_elim (λ e. absurd (let q : ◌≡◌ {A = List MicroId} (id ∷ ids) [] = e in cc)) (λ e. absurd (let q : ◌≡◌ {A = List ℤ} (label ∷ labels) [] = e in cc)) h
+
+pub all_lines :
+    {t u : Text} {ids ids_left : List MicroId} {labels labels_left : List ℤ} →
+    Lined t ids labels ids_left labels_left u →
+    (ids_left ≡ []) ⊎ (labels_left ≡ []) →
+    Added t (lines_of ids labels) u × Within (lines_of ids labels) (43 * length ids)
+all_lines {ids_left = is} {labels_left = ls} p h =
+    let e = sym (append-nil p.done) ∙ ap (λ (f : List ℕ). p.done ++ f) (sym (none_left is ls h)) ∙ p.left in
+    (worded e p.added, record { is = omega (arith, ap length e, p.within) })
 
 pub line_within : (id : MicroId) (label : ℤ) → id.0 < 2 ^ 64 → mag label < 2 ^ 63 → Within (line_of id label) 43
 line_within id label h k = beside (beside (beside (number_within id.0 h) (piece (ascii " "))) (integer_within label k)) (piece (ascii "\n"))

@@ -1,57 +1,56 @@
 // The lines that `families` prints.
 #![tactic(auto)]
 
-ghost use Rattle.std.specs.Prelude.{◌*◌, ◌≤◌, ◌≡◌, ◌++◌, take};
+ghost use Rattle.std.specs.Prelude.{◌≡◌, ◌*◌, ◌≤◌, ◌++◌, length, take};
 ghost use Rattle.model.specs.Limits.{micros_most};
-ghost use Rattle.text.specs.Text.{text_of, Added, Within};
+ghost use Rattle.text.specs.Text.{room, text_of, Added, Within};
 ghost use Rattle.families_lines.specs.Lines.{line_of, lines_of, last_line};
 
 use drift::DriftReport;
-use model::{MICROS, MicroId};
-use text::{Text, add, add_number};
+use model::MicroId;
+use text::Text;
 
 // Creation number and label.
-fn add_line(text: Text, id: MicroId, label: i64) -> Text
-    ensures added { Added text (line_of id label) result }
+fn add_line(text: &mut Text, id: MicroId, label: i64)
+    ensures added { Added text.old (line_of id label) text.new }
     ensures within { Within (line_of id label) 43 }
 {
-    let numbered = add_number(text, id.0);
-    let apart = add(numbered, b" ");
-    let labelled = text::add_integer(apart, label);
-    add(labelled, b"\n")
+    text.add_number(id.0);
+    text.add_byte(b' ');
+    text.add_integer(label);
+    text.add_byte(b'\n');
 }
 
-// The first n lines.
-fn add_lines(text: Text, ids: [MicroId; MICROS], labels: [i64; MICROS], n: usize) -> Text
-    requires { n ≤ micros_most }
-    ensures added { Added text (lines_of (take n ids) (take n labels)) result }
-    ensures within { Within (lines_of (take n ids) (take n labels)) (43 * n) }
+// A line for each creation number with its label.
+fn add_lines(text: &mut Text, ids: &[MicroId], labels: &[i64])
+    ensures added { Added text.old (lines_of ids.now labels.now) text.new }
+    ensures within { Within (lines_of ids.now labels.now) (43 * length ids.now) }
 {
-    let mut t = text;
-    let mut i: usize = 0;
-    while i < n {
-        t = add_line(t, ids[i], labels[i]);
-        i += 1;
+    for (id, label) in ids.iter().zip(labels) {
+        add_line(text, *id, *label);
     }
-    t
 }
 
 // Alarms and width.
-fn add_last(text: Text, report: DriftReport) -> Text
-    ensures added { Added text (last_line report) result }
+fn add_last(text: &mut Text, report: DriftReport)
+    ensures added { Added text.old (last_line report) text.new }
     ensures within { Within (last_line report) 56 }
 {
-    let rang = add(text, b"alarms ");
-    let counted = add_number(rang, report.alarms);
-    let wide = add(counted, b" window ");
-    let measured = add_number(wide, report.window as u64);
-    add(measured, b"\n")
+    text.add(b"alarms ");
+    text.add_number(report.alarms);
+    text.add(b" window ");
+    text.add_number(report.window as u64);
+    text.add(b"\n");
 }
 
-// A line for each of the first n, and the last line.
-pub fn listing(ids: [MicroId; MICROS], labels: [i64; MICROS], n: usize, report: DriftReport) -> Text
-    ensures { text_of result ≡ lines_of (take n ids) (take n labels) ++ last_line report }
+// A line for each creation number with its label, and the last line; none is cut off of as many as a stream holds.
+pub fn listing(ids: &[MicroId], labels: &[i64], report: DriftReport) -> Text
+    ensures cut { text_of result ≡ take room (lines_of ids.now labels.now ++ last_line report) }
+    ensures whole { length ids.now ≤ micros_most
+        → text_of result ≡ lines_of ids.now labels.now ++ last_line report }
 {
-    let lines = add_lines(text::blank(), ids, labels, lists::cut(n, MICROS));
-    add_last(lines, report)
+    let mut text = Text::new();
+    add_lines(&mut text, ids, labels);
+    add_last(&mut text, report);
+    text
 }

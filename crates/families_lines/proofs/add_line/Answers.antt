@@ -9,5 +9,5 @@ use Rattle.families_lines.proofs.add_line.Goals as goal
 
 pub returns : goal.returns
 returns c =
-    let label = worded (ap integer (to_z-of_z c.ranges.label)) c.add_integer-labelled.ensures in
+    let label = worded (ap integer (to_z-of_z c.ranges.label)) c.add_integer.ensures in
     record { added = search both; within = line_within c.args.id c.args.label (omega arith) c.ranges.label.sfits }

@@ -1,29 +1,23 @@
 -- `add_lines` meets its contract. Assumes nothing.
-use mathlib.Core.Path.{◌≡◌}
-use native.Mathlib.Omega.{arith}
-use lib.IntN.{pos}
-use lib.ListN.{get_or}
+use Rattle.std.proofs.Common.{ℤ, rules, ap, subst}
+use Rattle.std.proofs.lemmas.Slice.Zip.{either_empty_from_Zip}
+use Rattle.text.specs.Text.{Within}
+use Rattle.families_lines.specs.Lines.{line_of}
+use Rattle.text.specs.Laws.Pieces.{worded}
 use mir.Facts.{to_z-of_z}
 use mir.Syntax.{w64}
 use mir.Val.{SFits}
-use Rattle.families_lines.proofs.Printing.{no_lines, lines_more}
-use borrow.Author.Rules.{rules}
+use Rattle.families_lines.proofs.Printing.{no_lines, lines_more, all_lines}
 use Rattle.families_lines.proofs.add_lines.Goals as goal
 
-pub loop-i-init : goal.loop-i-init
-loop-i-init c =
-    let a = c.args in
-    (omega arith, no_lines a.text a.ids a.labels (omega arith))
+pub loop-id-init : goal.loop-id-init
+loop-id-init c = no_lines c.args.text.now (search rules) (search rules)
 
-pub loop-i-preserved : goal.loop-i-preserved
-loop-i-preserved c =
-    let a = c.args in
-    let l = c.loop-i in
-    let line = c.add_line-t.ensures in
-    let fits : SFits w64 (get_or a.labels l.i (pos 0)) = search rules in
-    (omega arith, lines_more l.i a.ids a.labels _ (pos 0) (omega arith) (omega arith) l.invariant.1 line.added line.within (to_z-of_z fits))
+pub loop-id-preserved : goal.loop-id-preserved
+loop-id-preserved c =
+    let fits : SFits w64 c.in-Some.label.now = search rules in
+    lines_more c.in-Some.id.now c.in-Some.label.now c.loop-id.invariant (search rules) (search rules) (worded (ap (line_of c.in-Some.id.now) (to_z-of_z fits)) c.add_line.ensures.added)
+    (subst (λ (z : ℤ). Within (line_of c.in-Some.id.now z) 43) (to_z-of_z fits) c.add_line.ensures.within)
 
 pub returns : goal.returns
-returns c =
-    let l = c.loop-i in
-    let e : l.i ≡ c.args.n = omega arith in rw (← e) (record { added = l.invariant.1.added; within = l.invariant.1.within })
+returns c = let all = all_lines c.loop-id.invariant (either_empty_from_Zip c.loop-id.id-iterator c.next.new.self c.next.result c.in-None.is c.next.ensures.steps) in record { added = all.0; within = all.1 }

@@ -1,9 +1,5 @@
-use Prim.Native.Nat.{◌-◌, ◌≤◌}
 use Rattle.families_lines.proofs.Printing.{Lined}
 use Rattle.families_lines.proofs.add_lines.Given as goal
 
-abbrev pub invariant-loop-i : goal.invariant-loop-i
-invariant-loop-i l = (l.i ≤ l.n) × Lined l.initial.t l.ids l.labels l.i l.t
-
-abbrev pub decreases-loop-i : goal.decreases-loop-i
-decreases-loop-i l = l.n - l.i
+abbrev pub invariant-loop-id : goal.invariant-loop-id
+invariant-loop-id l = Lined l.initial.text l.ids l.labels l.id-iterator.a.rest.now l.id-iterator.b.rest.now l.text
