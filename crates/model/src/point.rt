@@ -8,12 +8,8 @@ use feature::MAX_DIM;
 pub fn padded(x: &[f64]) -> [f64; MAX_DIM]
     ensures { result ≡ padded_of x.now }
 {
-    let n = lists::cut(x.len(), MAX_DIM);
     let mut p = [0.0; MAX_DIM];
-    let mut i: usize = 0;
-    while i < n {
-        p[i] = x[i];
-        i += 1;
-    }
+    let n = x.len().min(MAX_DIM);
+    p[..n].copy_from_slice(&x[..n]);
     p
 }

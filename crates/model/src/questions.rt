@@ -11,32 +11,28 @@ use feature::MAX_DIM;
 pub fn dim_in_range(dim: usize) -> bool
     ensures { result ≡ dim_in_range dim }
 {
-    if 1 <= dim { dim <= MAX_DIM } else { false }
+    1 <= dim && dim <= MAX_DIM
 }
 
 // Finite and above 0.
 fn positive(x: f64) -> bool
     ensures { result ≡ doc.positive x }
 {
-    if float::is_finite(x) { 0.0 < x } else { false }
+    float::is_finite(x) && 0.0 < x
 }
 
 // From 2 to the power -32 to 64.
 fn lambda_in_range(lambda: f64) -> bool
     ensures { result ≡ lambda_in_range lambda }
 {
-    if f64::from_bits(0x3df0_0000_0000_0000) <= lambda {
-        lambda <= 64.0
-    } else {
-        false
-    }
+    f64::from_bits(0x3df0_0000_0000_0000) <= lambda && lambda <= 64.0
 }
 
 // beta or alpha: above 0 and at most 1.
 fn share_in_range(share: f64) -> bool
     ensures { result ≡ share_in_range share }
 {
-    if 0.0 < share { share <= 1.0 } else { false }
+    0.0 < share && share <= 1.0
 }
 
 // The questions of both streams in order: the first no decides.
