@@ -1,7 +1,7 @@
 // What `families` prints for the bytes of its input.
 #![tactic(auto)]
 
-ghost use Rattle.std.specs.Prelude.{◌≡◌};
+ghost use Rattle.std.specs.Prelude.{◌≡◌, ◌≤◌, length, IfOk};
 ghost use Rattle.dbstream.specs.View.{view};
 ghost use Rattle.text.specs.Text.{text_of};
 ghost use Rattle.text.specs.Lent.{write_told, write_of};
@@ -9,7 +9,7 @@ ghost use Rattle.families_text.specs.Families.{cluster_text, families_text};
 
 use dbstream::DbStream;
 use model::MICROS;
-use text::{Text, Writing};
+use text::{Text, TooShort};
 
 // The stream, clustered, as text.
 fn clustered_text(stream: DbStream) -> Text
@@ -23,7 +23,7 @@ fn clustered_text(stream: DbStream) -> Text
     let mut labels = [-1i64; MICROS];
     db_readout::labels(clustered, &mut labels);
     let report = clustered.drift();
-    families_lines::listing(ids, labels, n, report)
+    families_lines::listing(&ids[..n], &labels[..n], report)
 }
 
 // A refusal is all that is printed.
@@ -40,9 +40,9 @@ fn text_of(input: &[u8]) -> Text
 }
 
 // The text at the start of the output, if it has a place for all of it.
-pub fn families(input: &[u8], output: &mut [u8]) -> Writing
-    ensures { write_told result output.new ≡ write_of (families_text input.now) output.old }
+pub fn families(input: &[u8], output: &mut [u8]) -> Result<usize, TooShort>
+    ensures told { write_told result output.new ≡ write_of (families_text input.now) output.old }
+    ensures in_bounds { IfOk result (λ n. n ≤ length output.new) }
 {
-    let text = text_of(input);
-    text.write(output)
+    text_of(input).write(output)
 }

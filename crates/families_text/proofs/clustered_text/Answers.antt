@@ -1,7 +1,9 @@
 -- `clustered_text` meets its contract. Assumes nothing.
+use Prim.Native.Nat.{◌≤◌}
 use mathlib.Core.Path.{◌≡◌, refl, ◌∙◌}
 use lib.IntN.{negsuc}
-use lib.ListN.{length, replicate}
+use native.Mathlib.Omega.{arith}
+use lib.ListN.{length, take, length-take, replicate}
 use Rattle.model.specs.Limits.{micros_most}
 use Rattle.dbstream.specs.View.{view}
 use Rattle.families_text.proofs.Clustered.{ids_are, text_is}
@@ -16,10 +18,12 @@ returns c =
     let ids = c.ids_of-ids in
     let labels = c.labels in
     let report = c.drift-report in
+    let named : length ids.result ≡ micros_most = search rules in
+    let few : length (take n.result ids.result) ≤ micros_most = omega (arith, named, length-take n.result ids.result) in
     let places : length u.micros ≡ micros_most = search rules in
-    c.listing.ensures
+    c.listing.ensures.whole few
     ∙ text_is (view s.stream) (view u) n.result ids.result labels.result labels.new.out (replicate micros_most (negsuc 0))
-    report.result (search rules) refl c.cluster-told.ensures.stream_value
+    report.result named refl c.cluster-told.ensures.stream_value
     (record {
       count = n.ensures;
       names = ids_are u n.result ids.result n.ensures places ids.ensures;
