@@ -1,2 +1,3 @@
 -- What the proofs of words share.
-pub mod Padded
+pub mod Hexed
+mod Padded

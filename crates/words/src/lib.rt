@@ -4,5 +4,5 @@
 mod text;
 mod word;
 
-pub use text::{Text, double_text};
-pub use word::{double_of, word_at};
+pub use text::Bits;
+pub use word::{double_of, read_word, word_at};

@@ -1,25 +1,32 @@
 // A double as text: the 16 hexadecimal digits of its bits, or the word nan.
-ghost use Rattle.std.specs.Prelude.{◌≡◌, take};
-ghost use Rattle.io.specs.Counts.{IsPrefixLen};
+ghost use Rattle.std.specs.Prelude.{◌≡◌, false, Some};
+ghost use Rattle.std.specs.Float.{binary64};
+ghost use Rattle.std.specs.Float.Ieee.{is_nan, to_bits};
 ghost use Rattle.words.specs.Text.{double_text};
 
-// The first `len` of the bytes.
-#[derive(Clone, Copy)]
-pub struct Text {
-    pub bytes: [u8; 16],
-    pub len: usize,
+use std::fmt;
+
+// The bits of a number. That they are a word's is known of a parameter, and not of a field that is lent.
+fn bits_of(x: f64) -> u64
+    requires { is_nan x ≡ false }
+    ensures { result ≡ to_bits binary64 x }
+{
+    x.to_bits()
 }
 
-// By the bits, so that no digit is lost; every NaN has one text.
-pub fn double_text(x: f64) -> Text
-    ensures bytes_value { take result.len result.bytes ≡ double_text x }
-    ensures prefix_len { IsPrefixLen result.len result.bytes }
-{
-    let mut bytes = [0u8; 16];
-    if x.is_nan() {
-        bytes[..3].copy_from_slice(b"nan");
-        return Text { bytes, len: 3 };
+// A double that prints by its bits, so that no digit is lost; every NaN has one text.
+#[derive(Clone, Copy)]
+pub struct Bits(pub f64);
+
+impl fmt::Display for Bits {
+    ghost output = { λ b. Some (double_text b.0) };
+
+    fn fmt<W: fmt::Write>(&self, f: &mut fmt::Formatter<W>) -> fmt::Result {
+        let x = self.0;
+        if x.is_nan() {
+            return write!(f, "nan");
+        }
+        let bits = bits_of(x);
+        write!(f, "{bits:016x}")
     }
-    let len = io::hex(x.to_bits(), 16, &mut bytes);
-    Text { bytes, len }
 }
