@@ -5,7 +5,9 @@
 mod groups;
 mod window;
 
-fn main() {
-    window::zeros_then_hundreds();
-    groups::three_zeros();
+use std::io;
+
+fn main(rt: HostRuntime) -> io::Result<()> {
+    window::zeros_then_hundreds(&rt)?;
+    groups::three_zeros(&rt)
 }
