@@ -1,49 +1,48 @@
 // A DBSTREAM near the end of its clock, and its cleanup with the slowest fading.
-use crate::output::{double, number, put, whole};
+use crate::taker::{Taker, taken};
 use dbstream::DbStream;
 use model::{DbMicro, DbSettings, MICROS, MicroId};
+use std::num::saturating_f64_to_u64;
+use std::{fmt, io};
+use words::Bits;
 
-fn micro(m: DbMicro) {
-    let id = m.id;
-    let body = m.body;
-    let cf = body.cf;
-    number(id.0);
-    whole(body.last);
-    double(cf.w);
+// Of each micro-cluster its creation number, latest tick and weight.
+#[derive(Clone, Copy)]
+struct Micros<'a>(&'a [DbMicro]);
+
+impl fmt::Display for Micros<'_> {
+    fn fmt<W: fmt::Write>(&self, f: &mut fmt::Formatter<W>) -> fmt::Result {
+        for m in self.0 {
+            let id = m.id.0;
+            let last = saturating_f64_to_u64(m.body.last);
+            write!(f, " {id} {last} {}", Bits(m.body.cf.w))?;
+        }
+        Ok(())
+    }
 }
 
-// An insert's line: the answer's number, the clock, and of each micro-cluster its creation number, latest tick and weight.
-fn say(answer: u64, t: f64, micros: [DbMicro; MICROS], count: usize) {
-    put(b"db");
-    number(answer);
-    whole(t);
-    let n = lists::cut(count, MICROS);
-    let mut i: usize = 0;
-    while i < n {
-        let m = micros[i];
-        micro(m);
-        i += 1;
+impl Taker for DbStream {
+    // The answer's number, the clock and the micro-clusters.
+    fn take(&mut self, rt: &impl Print, x: f64) -> io::Result<()> {
+        let inserted = (*self).try_insert(&[x]);
+        *self = inserted.stream;
+        let number = model::number_of(inserted.answer);
+        let t = saturating_f64_to_u64(self.t);
+        let n = self.count.min(MICROS);
+        let micros = Micros(&self.micros[..n]);
+        println!(rt; "db {number} {t}{micros}")
     }
-    put(b"\n");
-}
-
-// An insert of each point, told.
-fn inserts(stream: DbStream, points: &[f64]) -> DbStream {
-    let mut s = stream;
-    let mut i: usize = 0;
-    while i < points.len() {
-        let r = s.try_insert(&[points[i]]);
-        s = r.stream;
-        let answer = r.answer;
-        let micros = s.micros;
-        say(model::number_of(answer), s.t, micros, s.count);
-        i += 1;
-    }
-    s
 }
 
 // A stream of dim 1 and radius 1 takes the points `early`; then its clock is t and its next creation number `next`, and it takes `late`.
-fn tried(lambda: f64, early: &[f64], t: f64, next: u64, late: &[f64]) {
+fn tried(
+    rt: &impl Print,
+    lambda: f64,
+    early: &[f64],
+    t: f64,
+    next: u64,
+    late: &[f64],
+) -> io::Result<()> {
     let opened = DbStream::new(DbSettings {
         dim: 1,
         r: 1.0,
@@ -51,25 +50,22 @@ fn tried(lambda: f64, early: &[f64], t: f64, next: u64, late: &[f64]) {
         alpha: 0.5,
         min_weight: 1.0,
     });
-    let s = inserts(opened.stream, early);
+    let s = taken(rt, opened.stream, early)?;
     let next_id = MicroId(next);
-    inserts(DbStream { t, next_id, ..s }, late);
+    taken(rt, DbStream { t, next_id, ..s }, late)?;
+    Ok(())
 }
 
 // From the clock 2^40 - 4 on three inserts are taken, and no fourth.
-pub fn last_inserts() {
-    tried(
-        0.25,
-        &[0.0],
-        1099511627772.0,
-        1099511627772,
-        &[0.0, 0.0, 10.0, 10.0],
-    );
+pub fn last_inserts(rt: &impl Print) -> io::Result<()> {
+    let t = 1099511627772.0;
+    tried(rt, 0.25, &[0.0], t, 1099511627772, &[0.0, 0.0, 10.0, 10.0])
 }
 
 // lambda 2^-32: the first cleanup is due at 2^32, where a weight of 1 has faded to just the floor, and the next at 2^33.
-pub fn slowest_cleanup() {
+pub fn slowest_cleanup(rt: &impl Print) -> io::Result<()> {
     let lambda = 2.3283064365386963e-10;
-    tried(lambda, &[0.0, 10.0, 10.0], 4294967295.0, 2, &[20.0]);
-    tried(lambda, &[0.0, 10.0, 10.0], 8589934591.0, 2, &[20.0]);
+    let early = [0.0, 10.0, 10.0];
+    tried(rt, lambda, &early, 4294967295.0, 2, &[20.0])?;
+    tried(rt, lambda, &early, 8589934591.0, 2, &[20.0])
 }

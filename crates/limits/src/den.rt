@@ -1,70 +1,44 @@
 // A DenStream near the end of its clock, and its pruning with the slowest fading.
-use crate::output::{double, number, put, whole};
+use crate::taker::{Taker, taken};
 use denstream::DenStream;
 use model::{DenMicro, DenSettings, MICROS};
-
-fn micro(m: DenMicro) {
-    let body = m.body;
-    let cf = body.cf;
-    whole(m.t0);
-    whole(body.last);
-    double(cf.w);
-}
+use std::num::saturating_f64_to_u64;
+use std::{fmt, io};
+use words::Bits;
 
 // How many of a pool, then each: its birth, its latest tick and its weight.
-fn pool(micros: [DenMicro; MICROS], count: usize) {
-    let n = lists::cut(count, MICROS);
-    number(n as u64);
-    let mut i: usize = 0;
-    while i < n {
-        let m = micros[i];
-        micro(m);
-        i += 1;
+#[derive(Clone, Copy)]
+struct Pool<'a>(&'a [DenMicro]);
+
+impl fmt::Display for Pool<'_> {
+    fn fmt<W: fmt::Write>(&self, f: &mut fmt::Formatter<W>) -> fmt::Result {
+        write!(f, "{}", self.0.len())?;
+        for m in self.0 {
+            let t0 = saturating_f64_to_u64(m.t0);
+            let last = saturating_f64_to_u64(m.body.last);
+            write!(f, " {t0} {last} {}", Bits(m.body.cf.w))?;
+        }
+        Ok(())
     }
 }
 
-// An insert's line: the answer's number, the clock and both pools.
-fn say(
-    answer: u64,
-    t: f64,
-    potential: [DenMicro; MICROS],
-    np: usize,
-    outliers: [DenMicro; MICROS],
-    no: usize,
-) {
-    put(b"den");
-    number(answer);
-    whole(t);
-    pool(potential, np);
-    pool(outliers, no);
-    put(b"\n");
-}
-
-// An insert of each point, told.
-fn inserts(stream: DenStream, points: &[f64]) -> DenStream {
-    let mut s = stream;
-    let mut i: usize = 0;
-    while i < points.len() {
-        let r = s.try_insert(&[points[i]]);
-        s = r.stream;
-        let answer = r.answer;
-        let potential = s.potential;
-        let outliers = s.outliers;
-        say(
-            model::number_of(answer),
-            s.t,
-            potential,
-            s.potential_count,
-            outliers,
-            s.outlier_count,
-        );
-        i += 1;
+impl Taker for DenStream {
+    // The answer's number, the clock and both pools.
+    fn take(&mut self, rt: &impl Print, x: f64) -> io::Result<()> {
+        let inserted = (*self).try_insert(&[x]);
+        *self = inserted.stream;
+        let number = model::number_of(inserted.answer);
+        let t = saturating_f64_to_u64(self.t);
+        let np = self.potential_count.min(MICROS);
+        let no = self.outlier_count.min(MICROS);
+        let potential = Pool(&self.potential[..np]);
+        let outliers = Pool(&self.outliers[..no]);
+        println!(rt; "den {number} {t} {potential} {outliers}")
     }
-    s
 }
 
 // A stream of dim 1, radius 1 and beta x mu 2 takes the points `early`; then its clock is t, and it takes `late`.
-fn tried(lambda: f64, early: &[f64], t: f64, late: &[f64]) {
+fn tried(rt: &impl Print, lambda: f64, early: &[f64], t: f64, late: &[f64]) -> io::Result<()> {
     let opened = DenStream::new(DenSettings {
         dim: 1,
         eps: 1.0,
@@ -72,21 +46,19 @@ fn tried(lambda: f64, early: &[f64], t: f64, late: &[f64]) {
         beta: 0.5,
         mu: 4.0,
     });
-    let s = inserts(opened.stream, early);
-    inserts(DenStream { t, ..s }, late);
+    let s = taken(rt, opened.stream, early)?;
+    taken(rt, DenStream { t, ..s }, late)?;
+    Ok(())
 }
 
 // From the clock 2^40 - 4 on three inserts are taken, and no fourth.
-pub fn last_inserts() {
-    tried(0.25, &[], 1099511627772.0, &[0.0, 0.0, 0.0, 0.0]);
+pub fn last_inserts(rt: &impl Print) -> io::Result<()> {
+    tried(rt, 0.25, &[], 1099511627772.0, &[0.0, 0.0, 0.0, 0.0])
 }
 
 // lambda 2^-32: the first pruning is due at 2^32. Four points just keep beta x mu till then, three do not.
-pub fn slowest_pruning() {
-    tried(
-        2.3283064365386963e-10,
-        &[0.0, 0.0, 0.0, 0.0, 10.0, 10.0, 10.0, 30.0],
-        4294967294.0,
-        &[20.0, 20.0],
-    );
+pub fn slowest_pruning(rt: &impl Print) -> io::Result<()> {
+    let lambda = 2.3283064365386963e-10;
+    let early = [0.0, 0.0, 0.0, 0.0, 10.0, 10.0, 10.0, 30.0];
+    tried(rt, lambda, &early, 4294967294.0, &[20.0, 20.0])
 }

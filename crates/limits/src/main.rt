@@ -5,13 +5,15 @@
 
 mod db;
 mod den;
-mod output;
+mod taker;
 mod window;
 
-fn main() {
-    window::last_values();
-    db::last_inserts();
-    db::slowest_cleanup();
-    den::last_inserts();
-    den::slowest_pruning();
+use std::io;
+
+fn main(rt: HostRuntime) -> io::Result<()> {
+    window::last_values(&rt)?;
+    db::last_inserts(&rt)?;
+    db::slowest_cleanup(&rt)?;
+    den::last_inserts(&rt)?;
+    den::slowest_pruning(&rt)
 }

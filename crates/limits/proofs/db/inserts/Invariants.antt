@@ -1,9 +1,0 @@
--- `inserts` goes through the points to the last. Assumes nothing.
-use Rattle.std.proofs.Common.{◌-◌, length}
-use Rattle.limits.proofs.db.inserts.Given as goal
-
-abbrev pub invariant-loop-i : goal.invariant-loop-i
-invariant-loop-i l = Unit {0}
-
-abbrev pub decreases-loop-i : goal.decreases-loop-i
-decreases-loop-i l = length l.points - l.i

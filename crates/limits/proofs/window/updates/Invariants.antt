@@ -1,9 +1,0 @@
--- `updates` goes through the values to the last. Assumes nothing.
-use Rattle.std.proofs.Common.{◌-◌, length}
-use Rattle.limits.proofs.window.updates.Given as goal
-
-abbrev pub invariant-loop-i : goal.invariant-loop-i
-invariant-loop-i l = Unit {0}
-
-abbrev pub decreases-loop-i : goal.decreases-loop-i
-decreases-loop-i l = length l.values - l.i
