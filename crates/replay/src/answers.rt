@@ -1,96 +1,70 @@
 // The lines of the answers that both streams give.
-use crate::output::{Line, double, end, label, number, put, say, start};
-use crate::rows::labels;
+use crate::figures::{Counted, OrDash};
 use drift::DriftReport;
-use model::{InsertError, MICROS, NotLive, OpenError, ShapeError, TooShort};
+use model::{InsertError, NotLive, OpenError, ShapeError, TooShort};
+use std::io;
+use words::Bits;
 
-// An opening or an insert that is accepted.
-pub fn say_ok() {
-    say(b"ok");
+pub fn say_refused(rt: &impl Print, number: u64) -> io::Result<()> {
+    println!(rt; "refused {number}")
 }
 
-// No stream, or no window, to act on.
-pub fn say_none() {
-    say(b"none");
+fn say_shape(rt: &impl Print, expected: usize, got: usize) -> io::Result<()> {
+    println!(rt; "refused 7 {expected} {got}")
 }
 
-fn say_refused(code: u64) {
-    end(number(start(b"refused"), code));
-}
-
-// Whether the stream is open; the answer is printed.
-pub fn opens(answer: Result<(), OpenError>) -> bool {
-    if answer.is_ok() {
-        say_ok();
-        return true;
+// Operations 1 and 2.
+pub fn say_opening(rt: &impl Print, answer: Result<(), OpenError>) -> io::Result<()> {
+    match answer {
+        Ok(()) => println!(rt; "ok"),
+        Err(error) => say_refused(rt, error.into()),
     }
-    say_refused(model::number_of(answer));
-    false
-}
-
-fn say_shape(expected: usize, got: usize) {
-    let line = number(start(b"refused 7"), expected as u64);
-    end(number(line, got as u64));
 }
 
 // Operation 3.
-pub fn say_insertion(answer: Result<(), InsertError>) {
+pub fn say_insertion(rt: &impl Print, answer: Result<(), InsertError>) -> io::Result<()> {
     match answer {
-        Ok(()) => say_ok(),
-        Err(InsertError::Shape { expected, got }) => say_shape(expected, got),
-        Err(InsertError::ClockAtLimit) => say_refused(8),
-        Err(InsertError::NoPlace) => say_refused(9),
+        Ok(()) => println!(rt; "ok"),
+        Err(InsertError::Shape { expected, got }) => say_shape(rt, expected, got),
+        Err(error) => say_refused(rt, error.into()),
     }
 }
 
-// Operation 4: the finds that cluster made, and their halving steps.
-pub fn say_clustered(finds: u64, steps: u64) {
-    end(number(number(start(b"ok"), finds), steps));
-}
-
-// Operation 5: as many labels as were written.
-pub fn say_labels(answer: Result<(), TooShort>, read: [i64; MICROS], count: usize) {
-    let Ok(()) = answer else {
-        say_refused(10);
-        return;
-    };
-    end(labels(start(b"labels"), read, count));
+// Operation 5: the labels that were written.
+pub fn say_labels(rt: &impl Print, answer: Result<(), TooShort>, labels: &[i64]) -> io::Result<()> {
+    match answer {
+        Ok(()) => println!(rt;
+            "labels{}",
+            Counted {
+                held: labels,
+                dim: 0
+            }
+        ),
+        Err(TooShort) => say_refused(rt, 10),
+    }
 }
 
 // Operation 6.
-pub fn say_prediction(answer: Result<i64, ShapeError>) {
+pub fn say_prediction(rt: &impl Print, answer: Result<i64, ShapeError>) -> io::Result<()> {
     match answer {
-        Ok(l) => end(label(start(b"label"), l)),
-        Err(ShapeError { expected, got }) => say_shape(expected, got),
+        Ok(label) => println!(rt; "label {label}"),
+        Err(ShapeError { expected, got }) => say_shape(rt, expected, got),
     }
 }
 
 // Operation 8.
-pub fn say_connectivity(answer: Result<f64, NotLive>) {
+pub fn say_connectivity(rt: &impl Print, answer: Result<f64, NotLive>) -> io::Result<()> {
     match answer {
-        Ok(density) => end(double(start(b"connectivity"), density)),
-        Err(NotLive) => say_refused(12),
+        Ok(density) => println!(rt; "connectivity {}", Bits(density)),
+        Err(NotLive) => say_refused(rt, 12),
     }
 }
 
-// The tick of the last alarm by its bits, or a dash.
-fn last_tick(line: Line, last: Option<f64>) -> Line {
-    let Some(t) = last else {
-        return put(line, b" -");
-    };
-    double(line, t)
-}
-
 // Operation 9.
-pub fn say_drift(d: DriftReport) {
-    let last = d.last_alarm;
-    let alarms = number(start(b"drift"), d.alarms);
-    let mean = double(last_tick(alarms, last), d.distance);
-    end(number(mean, d.window as u64));
-}
-
-// Operation 14.
-pub fn say_counts(dim: usize, micros: usize, families: usize) {
-    let line = number(start(b"counts"), dim as u64);
-    end(number(number(line, micros as u64), families as u64));
+pub fn say_drift(rt: &impl Print, report: DriftReport) -> io::Result<()> {
+    let alarms = report.alarms;
+    let last = OrDash(report.last_alarm.map(Bits));
+    let mean = Bits(report.distance);
+    let width = report.window;
+    println!(rt; "drift {alarms} {last} {mean} {width}")
 }

@@ -1,53 +1,81 @@
-// Parts of operation 13's line that both streams have.
-use crate::output::{Line, double, end, number, put, whole};
-use crate::rows::doubles;
-use adwin::{Adwin, Bucket, PLACES};
-use drift::DriftMonitor;
-use feature::Spherical;
+// How figures are printed: doubles by their bits, times and counts in decimal, lists with a space before each field.
+use feature::{MAX_DIM, Spherical};
+use std::fmt;
+use std::num::saturating_f64_to_u64;
+use words::Bits;
 
-// Weight, sum of squared deviations, and the mean's coordinates.
-pub fn feature(line: Line, cf: Spherical, dim: usize) -> Line {
-    let mean = cf.mean;
-    doubles(double(double(line, cf.w), cf.ssd), &mean, dim)
+// A double that is a whole number, to print it in decimal.
+pub fn whole(x: f64) -> u64 {
+    saturating_f64_to_u64(x)
 }
 
-fn bucket(line: Line, class: u8, b: Bucket) -> Line {
-    let sized = whole(number(line, class as u64), b.size);
-    double(double(sized, b.total), b.variance)
-}
+// What may be absent: then a dash.
+#[derive(Clone, Copy)]
+pub struct OrDash<T>(pub Option<T>);
 
-// How many buckets, then each, oldest first.
-fn buckets(line: Line, w: Adwin) -> Line {
-    let held = w.buckets;
-    let classes = w.classes;
-    let n = lists::cut(w.count, PLACES);
-    let mut out = number(line, n as u64);
-    let mut i: usize = 0;
-    while i < n {
-        let b = held[i];
-        out = bucket(out, classes[i], b);
-        i += 1;
+impl<T: fmt::Display> fmt::Display for OrDash<T> {
+    fn fmt<W: fmt::Write>(&self, f: &mut fmt::Formatter<W>) -> fmt::Result {
+        match &self.0 {
+            Some(x) => write!(f, "{x}"),
+            None => write!(f, "-"),
+        }
     }
-    out
 }
 
-// All that the window keeps.
-fn window(line: Line, w: Adwin) -> Line {
-    let sums = double(double(whole(line, w.width), w.total), w.variance);
-    buckets(number(number(sums, w.since_check), w.taken), w)
+// Doubles one after another.
+#[derive(Clone, Copy)]
+pub struct Doubles<'a>(pub &'a [f64]);
+
+impl fmt::Display for Doubles<'_> {
+    fn fmt<W: fmt::Write>(&self, f: &mut fmt::Formatter<W>) -> fmt::Result {
+        for x in self.0 {
+            write!(f, " {}", Bits(*x))?;
+        }
+        Ok(())
+    }
 }
 
-// The tick of the last alarm in decimal, or a dash.
-fn last_tick(line: Line, last: Option<f64>) -> Line {
-    let Some(t) = last else {
-        return put(line, b" -");
-    };
-    whole(line, t)
+// An element of a list that operation 13 prints, of a stream of this many coordinates.
+pub trait Figure {
+    fn write_figure<W: fmt::Write>(&self, dim: usize, f: &mut fmt::Formatter<W>) -> fmt::Result;
 }
 
-// All that the drift monitor keeps ends the line.
-pub fn end_with(line: Line, m: DriftMonitor) {
-    let last = m.last_alarm;
-    let w = m.adwin;
-    end(window(last_tick(number(line, m.alarms), last), w));
+// A label.
+impl Figure for i64 {
+    fn write_figure<W: fmt::Write>(&self, _dim: usize, f: &mut fmt::Formatter<W>) -> fmt::Result {
+        let label = *self;
+        write!(f, " {label}")
+    }
+}
+
+// How many there are, then each.
+#[derive(Clone, Copy)]
+pub struct Counted<'a, T> {
+    pub held: &'a [T],
+    pub dim: usize,
+}
+
+impl<T: Figure> fmt::Display for Counted<'_, T> {
+    fn fmt<W: fmt::Write>(&self, f: &mut fmt::Formatter<W>) -> fmt::Result {
+        write!(f, " {}", self.held.len())?;
+        for x in self.held {
+            x.write_figure(self.dim, f)?;
+        }
+        Ok(())
+    }
+}
+
+// Weight, sum of squared deviations, and the mean's coordinates, as many as the stream has.
+#[derive(Clone, Copy)]
+pub struct Feature<'a> {
+    pub cf: &'a Spherical,
+    pub dim: usize,
+}
+
+impl fmt::Display for Feature<'_> {
+    fn fmt<W: fmt::Write>(&self, f: &mut fmt::Formatter<W>) -> fmt::Result {
+        let n = self.dim.min(MAX_DIM);
+        let mean = Doubles(&self.cf.mean[..n]);
+        write!(f, " {} {}{mean}", Bits(self.cf.w), Bits(self.cf.ssd))
+    }
 }

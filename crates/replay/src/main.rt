@@ -7,80 +7,86 @@
 mod answers;
 mod db;
 mod den;
+mod drift_figures;
 mod figures;
 mod input;
-mod lent;
-mod output;
-mod rows;
-mod statistics;
+mod operation;
+mod stream;
 mod window;
 
-use input::{Record, STOP, bare, next_record};
-use window::watching;
+use adwin::Adwin;
+use dbstream::DbStream;
+use denstream::DenStream;
+use input::{Malformed, next_operation};
+use model::OpenError;
+use operation::Operation;
+use std::io;
 
-// Who acts. The streams are numbered as the operations that open them.
-const NOBODY: u64 = 0;
-
-const DBSTREAM: u64 = 1;
-
-const DENSTREAM: u64 = 2;
-
-const WINDOW: u64 = 3;
-
-const END: u64 = 4;
-
-// Whether an opening is accepted; its answer is printed.
-fn opens(r: Record) -> bool {
-    if r.op == DBSTREAM {
-        return db::opens(r);
-    }
-    den::opens(r)
+// The current stream: the one that the last accepted opening made.
+#[derive(Clone, Copy)]
+enum Current {
+    Nobody,
+    Db(DbStream),
+    Den(DenStream),
 }
 
-// Who acts on a record while this stream is the current one; what nobody acts on is answered here.
-fn actor(current: u64, r: Record) -> u64 {
-    if r.op == STOP {
-        return END;
+// An opening; a refused one leaves the current stream as it was.
+fn open(
+    rt: &impl Print,
+    current: &mut Current,
+    answer: Result<(), OpenError>,
+    opened: Current,
+) -> io::Result<()> {
+    if answer.is_ok() {
+        *current = opened;
     }
-    if 10 <= r.op && r.op <= 12 {
-        return WINDOW;
-    }
-    if r.op <= DENSTREAM {
-        if opens(r) {
-            return r.op;
+    answers::say_opening(rt, answer)
+}
+
+// An operation on the current stream or the current window, or one that opens it.
+fn act(
+    rt: &impl Print,
+    current: &mut Current,
+    window: &mut Option<Adwin>,
+    operation: Operation,
+) -> io::Result<()> {
+    match operation {
+        Operation::OpenDb(settings) => {
+            let opened = DbStream::new(settings);
+            open(rt, current, opened.answer, Current::Db(opened.stream))
         }
-        return NOBODY;
+        Operation::OpenDen(settings) => {
+            let opened = DenStream::new(settings);
+            open(rt, current, opened.answer, Current::Den(opened.stream))
+        }
+        Operation::OpenWindow { delta } => {
+            *window = Some(Adwin::new(delta));
+            println!(rt; "ok")
+        }
+        Operation::Stream(call) => match current {
+            Current::Nobody => println!(rt; "none"),
+            Current::Db(stream) => stream::act(rt, stream, call),
+            Current::Den(stream) => stream::act(rt, stream, call),
+        },
+        Operation::Window(call) => match window {
+            None => println!(rt; "none"),
+            Some(window) => window::act(rt, window, call),
+        },
     }
-    if current == NOBODY {
-        answers::say_none();
-    }
-    current
 }
 
-// Each record acts on the current stream or on the current window; a refused opening leaves the current stream as it was.
-// The three are variables of this loop and of nothing larger, so that a call copies only what it acts on.
-fn main() {
-    let mut db = db::opened(bare(STOP));
-    let mut den = den::opened(bare(STOP));
-    let mut window = watching(0.0, false);
-    let mut current = NOBODY;
+// The operations one after another, to the end of the input or to a record that is not well formed.
+fn main(rt: HostRuntime) -> io::Result<()> {
+    let mut input = rt.reader();
+    let mut current = Current::Nobody;
+    let mut window = None;
     // More records than any input has.
-    let mut left: u64 = 0xffff_ffff_ffff;
-    while left > 0 {
-        let r = next_record();
-        match actor(current, r) {
-            END => return,
-            DBSTREAM => {
-                current = DBSTREAM;
-                db = db::act(db, r);
-            }
-            DENSTREAM => {
-                current = DENSTREAM;
-                den = den::act(den, r);
-            }
-            WINDOW => window = window::act(window, r),
-            _ => {}
+    for _ in 0..u64::MAX {
+        match next_operation(&mut input) {
+            Ok(Some(operation)) => act(&rt, &mut current, &mut window, operation)?,
+            Ok(None) => return Ok(()),
+            Err(Malformed) => return println!(rt; "bad"),
         }
-        left -= 1;
     }
+    Ok(())
 }

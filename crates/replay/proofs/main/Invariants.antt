@@ -1,8 +1,0 @@
--- `main` ends: every turn of its loop takes one of the records that are left. Assumes nothing.
-use Rattle.replay.proofs.main.Given as goal
-
-abbrev pub invariant-loop-left : goal.invariant-loop-left
-invariant-loop-left l = Unit {0}
-
-abbrev pub decreases-loop-left : goal.decreases-loop-left
-decreases-loop-left l = l.left

@@ -1,8 +1,0 @@
--- A double between the tests is cut to a number. Assumes nothing.
-use Rattle.std.proofs.Common.{T, sym, subst}
-use lib.Ieee.{of_bits, neg}
-use Rattle.replay.proofs.output.whole.Goals as goal
-
-pub truncating_f64_to_u64-requires : goal.truncating_f64_to_u64-requires
-unfolding of_bits neg
-truncating_f64_to_u64-requires c = record { lower_bound = subst T (sym c.if-x.true) tt; upper_bound = subst T (sym c.if-x-2.true) tt }

@@ -1,9 +1,0 @@
--- `doubles` reads the doubles up to the count. Assumes nothing.
-use Rattle.std.proofs.Common.{◌-◌}
-use Rattle.replay.proofs.rows.doubles.Given as goal
-
-abbrev pub invariant-loop-i : goal.invariant-loop-i
-invariant-loop-i l = Unit {0}
-
-abbrev pub decreases-loop-i : goal.decreases-loop-i
-decreases-loop-i l = l.n - l.i
