@@ -1,15 +1,9 @@
--- What of a pool is held: the first of its array, of each micro-cluster the coordinates that a point has. Definitions only.
+-- What is seen of a pool: its first ones, of each micro-cluster the coordinates that a point has. Definitions only.
 use Rattle.std.specs.Prelude.{ℕ, min, List, map, Float, take}
 use Rattle.feature.specs.Feature.{max_dim}
-use Rattle.model.specs.declared.body.Body.{Body}
 use Rattle.model.specs.declared.micro.DenMicro.{DenMicro}
-use Rattle.model.specs.Body.{faded_weight, body_in}
+use Rattle.model.specs.Body.{faded_weight, body_in, distance_to}
 use Rattle.model.specs.DenState.{Settings, Params}
-use Rattle.readout.specs.Seen.{distance_in}
-use Rattle.den_pool.specs.declared.pool.Pool.{Pool}
-
-abbrev pub held : Pool → List DenMicro
-held p = take p.count p.micros
 
 -- never more than 15 coordinates
 abbrev pub dim_of : Params → ℕ
@@ -26,16 +20,13 @@ settled_of p = record { settings = with_dim p.settings (dim_of p); eps2 = p.eps2
 abbrev pub micro_in : (dim : ℕ) → DenMicro → DenMicro
 micro_in dim m = record { body = body_in dim m.body; t0 = m.t0 }
 
--- the first n of an array
+-- the first n of a pool
 abbrev pub seen : (dim n : ℕ) → List DenMicro → List DenMicro
 seen dim n pool = map (micro_in dim) (take n pool)
 
 -- the squared distance of its centre from a point of dim coordinates
 abbrev pub distance_of : (dim : ℕ) → List Float → DenMicro → Float
-distance_of dim x m = distance_in dim x m.body
-
-abbrev pub body_of : DenMicro → Body
-body_of m = m.body
+distance_of dim x m = distance_to x (micro_in dim m).body
 
 abbrev pub weight_of : (lambda t : Float) → DenMicro → Float
 weight_of lambda t m = faded_weight lambda t m.body

@@ -1,4 +1,4 @@
-// A pool of DenStream's micro-clusters, potential ones or outliers: an array, of which the first n are held.
+// A pool of DenStream's micro-clusters, potential ones or outliers: their weights, who stays, the trial of the nearest.
 #![tactic(auto)]
 
 mod micro;
@@ -7,6 +7,6 @@ mod pruning;
 mod trial;
 
 pub use micro::newborn;
-pub use pool::{Pool, bodies, faded_weights, without};
-pub use pruning::{Rank, pruned};
-pub use trial::{Trial, try_merge};
+pub use pool::{faded_weights, without};
+pub use pruning::{outlier_stays, potential_stays};
+pub use trial::{Absorbed, Trial, try_merge};

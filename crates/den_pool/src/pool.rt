@@ -1,69 +1,30 @@
-// The array of a pool, and how many of its places are held.
+// The weights of a pool's micro-clusters, and one of them taken out.
 ghost use Rattle.std.specs.Prelude.{◌≡◌, map, length, take};
 ghost use Rattle.lists.specs.Retain as list;
-ghost use Rattle.den_pool.specs.Held.{held, body_of, weight_of};
+ghost use Rattle.model.specs.Limits.{micros_most};
+ghost use Rattle.den_pool.specs.Held.{weight_of};
 
-use model::{Body, DenMicro, MICROS};
+use model::{DenMicro, MICROS};
 
-#[derive(Clone, Copy)]
-pub struct Pool {
-    pub micros: [DenMicro; MICROS],
-    pub count: usize,
+// The weight of each of the first 64, faded to t.
+pub fn faded_weights(pool: &[DenMicro], lambda: f64, t: f64) -> [f64; MICROS]
+    ensures { take (length pool.now) result ≡ map (weight_of lambda t) (take micros_most pool.now) }
+{
+    let mut weights = [0.0; MICROS];
+    for i in 0..pool.len().min(MICROS) {
+        weights[i] = pool[i].body.faded_weight(lambda, t);
+    }
+    weights
 }
 
-// Each one's weight, faded to t.
-pub fn faded_weights(pool: [DenMicro; MICROS], n: usize, lambda: f64, t: f64) -> [f64; MICROS]
-    ensures { take n result ≡ map (weight_of lambda t) (take n pool) }
+// Takes out the one at the place, if it is there: the others keep their order in front, and are counted.
+pub fn without(pool: &mut [DenMicro], place: usize) -> usize
+    ensures result_value { take result pool.new ≡ list.without place pool.old }
+    ensures counted { result ≡ length (take result pool.new) }
 {
-    let k = lists::cut(n, MICROS);
-    let mut w = [0.0; MICROS];
-    let mut i: usize = 0;
-    while i < k {
-        let m = pool[i];
-        let b = m.body;
-        w[i] = b.faded_weight(lambda, t);
-        i += 1;
+    if pool.len() <= place {
+        return pool.len();
     }
-    w
-}
-
-// All but the one at the place, in order.
-pub fn without(mut pool: [DenMicro; MICROS], n: usize, place: usize) -> Pool
-    ensures result_value { held result ≡ list.without place (take n pool) }
-    ensures counted { result.count ≡ length (held result) }
-{
-    let k = lists::cut(n, MICROS);
-    if k <= place {
-        return Pool {
-            micros: pool,
-            count: k,
-        };
-    }
-    let mut i = place;
-    while i + 1 < k {
-        let m = pool[i + 1];
-        pool[i] = m;
-        i += 1;
-    }
-    Pool {
-        micros: pool,
-        count: i,
-    }
-}
-
-// What both streams keep of each.
-pub fn bodies(pool: [DenMicro; MICROS], n: usize) -> [Body; MICROS]
-    ensures { take n result ≡ map body_of (take n pool) }
-{
-    let k = lists::cut(n, MICROS);
-    let none = Body::new();
-    let mut all = [none; MICROS];
-    let mut i: usize = 0;
-    while i < k {
-        let m = pool[i];
-        let b = m.body;
-        all[i] = b;
-        i += 1;
-    }
-    all
+    pool[place..].rotate_left(1);
+    pool.len() - 1
 }

@@ -1,48 +1,70 @@
 -- A trial is that of document 01's definitions, and finds a place of the pool. Assumes nothing.
-use Rattle.std.specs.Prelude.{ℕ, ◌≤◌, ◌<◌, ◌≡◌, refl, true, cond, List, Float, length, None, Some}
+use Rattle.std.specs.Prelude.{ℕ, ◌≤◌, ◌<◌, ◌≡◌, refl, Bool, true, false, cond, List, Float, length, Option, None, Some}
 use Rattle.std.proofs.Common.{arith, ap, ◌∙◌}
-use Rattle.std.proofs.Math.Option.{Option, none, some}
+use Rattle.std.proofs.Math.Option.{none, some}
+use Rattle.std.proofs.Math.Option as math
 use Rattle.float.specs.Rounded.{nought}
 use Rattle.feature.specs.Feature.{max_dim}
+use Rattle.drift.specs.Monitor.{Nearest}
 use Rattle.model.specs.declared.micro.DenMicro.{DenMicro}
 use Rattle.model.specs.Nearest.{Near}
 use Rattle.model.specs.declared.body.Body.{Body}
 use Rattle.model.specs.Body.{distance_to}
 use Rattle.model.specs.DenState.{Params}
-use Rattle.model.specs.DenInsert.{nearest_in, trial, distance_of, absorbs, newborn}
+use Rattle.model.specs.DenInsert.{nearest_in, trial, distance_of, stands, absorbs, newborn}
 use Rattle.model.specs.Laws.Body.{birth_in, absorbing_in}
 use Rattle.readout.specs.Found.{found_of}
 use Rattle.readout.specs.Laws.Nearest.{found_at}
+use Rattle.den_pool.specs.declared.trial.Absorbed.{Absorbed}
 use Rattle.den_pool.specs.declared.trial.Trial.{Trial}
 use Rattle.den_pool.specs.Held.{micro_in}
-use Rattle.den_pool.specs.Tried.{tried_by, tried_of}
-use Rattle.drift.specs.Monitor.{Nearest}
+use Rattle.den_pool.specs.Tried.{absorbed_of, tried_by, tried_of}
 
 abbrev squared : Nearest → Float
 squared None = nought
 squared (Some d) = d
 
--- the one that takes the point
-abbrev pub taker_of : Trial → Near DenMicro
-taker_of r = record { place = r.place; micro = r.micro; dist = squared r.near }
+abbrev taker_by : Nearest → Option Absorbed → math.Option (Near DenMicro)
+taker_by near None = none
+taker_by near (Some a) = some (record { place = a.place; micro = a.micro; dist = squared near })
 
--- the definition's trial is the taker, if there is one
-pub tried_trial :
-    (p : Params) (t : Float) (x : List Float) (o : Option (Near DenMicro)) →
-    trial p t x o ≡ cond (tried_by p t x o).stands (some (taker_of (tried_by p t x o))) none
+-- the one that takes the point, if there is one
+abbrev pub taker_of : Trial → math.Option (Near DenMicro)
+taker_of r = taker_by r.near r.taken
+
+-- the nearest's copy, by whether it stands
+abbrev copied : Params → (t : Float) → List Float → Near DenMicro → Bool → math.Option (Near DenMicro)
+copied p t x b u = cond u (some (record { place = b.place; micro = absorbs p.settings.lambda t x b.micro; dist = b.dist })) none
+
+-- the definition's trial is the taker
+pub tried_trial : (p : Params) (t : Float) (x : List Float) (o : math.Option (Near DenMicro)) → trial p t x o ≡ taker_of (tried_by p t x o)
 tried_trial p t x none = refl
-tried_trial p t x (some b) = refl
-
-pub tried_near : (p : Params) (t : Float) (x : List Float) (o : Option (Near DenMicro)) → (tried_by p t x o).near ≡ distance_of o
-tried_near p t x none = refl
-tried_near p t x (some b) = refl
-
-pub tried_low : (p : Params) (t : Float) (x : List Float) (pool : List DenMicro) → (tried_of p t x pool).stands ≡ true → (tried_of p t x pool).place < length pool
-tried_low p t x pool = go (nearest_in x pool) refl
+tried_trial p t x (some b) = go (stands p.eps2 (absorbs p.settings.lambda t x b.micro))
   where
-    go : (o : Option (Near DenMicro)) → nearest_in x pool ≡ o → (tried_by p t x o).stands ≡ true → (tried_by p t x o).place < length pool
+    go : (u : Bool) → copied p t x b u ≡ taker_of (record { near = Some b.dist; taken = absorbed_of (copied p t x b u) })
+    go true = refl
+    go false = refl
+
+pub tried_near : (p : Params) (t : Float) (x : List Float) (o : math.Option (Near DenMicro)) → (tried_by p t x o).near ≡ distance_of o
+tried_near p t x o = refl
+
+pub tried_low :
+    (p : Params) (t : Float) (x : List Float) (pool : List DenMicro) (a : Absorbed) → (tried_of p t x pool).taken ≡ Some a → a.place < length pool
+tried_low p t x pool a = go (nearest_in x pool) refl
+  where
+    go : (o : math.Option (Near DenMicro)) → nearest_in x pool ≡ o → (tried_by p t x o).taken ≡ Some a → a.place < length pool
     go none e h = let z : ◌≡◌ {A = ℕ} 0 1 = cc in absurd (omega arith)
-    go (some b) e h = (found_at (λ (m : DenMicro). distance_to x m.body) pool b.place b.dist (ap found_of e)).low
+    go (some b) e h = by_stands (stands p.eps2 (absorbs p.settings.lambda t x b.micro)) h
+      where
+        low : b.place < length pool
+        low = (found_at (λ (m : DenMicro). distance_to x m.body) pool b.place b.dist (ap found_of e)).low
+
+        by_stands : (u : Bool) → absorbed_of (copied p t x b u) ≡ Some a → a.place < length pool
+        by_stands true k =
+            let q : record { place = b.place; micro = absorbs p.settings.lambda t x b.micro } ≡ a = cc in
+            let e : b.place ≡ a.place = ap (λ (r : Absorbed). r.place) q in
+            omega (arith, low)
+        by_stands false k = let z : ◌≡◌ {A = ℕ} 0 1 = cc in absurd (omega arith)
 
 -- ---- cut to the coordinates of a point
 pub newborn_in :

@@ -1,14 +1,10 @@
 -- `faded_weights` meets its contract. Assumes nothing.
 use native.Mathlib.Omega.{arith}
-use borrow.Author.Rules.{rules}
-use Rattle.lists.specs.Laws.Counted.{gather_starts, gather_goes, gather_ends}
+use Rattle.den_pool.proofs.Pools.{gathered_more, gathered_all}
 use Rattle.den_pool.proofs.pool.faded_weights.Goals as goal
 
-pub loop-i-init : goal.loop-i-init
-loop-i-init c = gather_starts c.cut-k.ensures (omega arith) (search rules)
-
 pub loop-i-preserved : goal.loop-i-preserved
-loop-i-preserved c = gather_goes c.loop-i.invariant _ c.loop-i-test.true c.faded_weight.ensures
+loop-i-preserved c = gathered_more c.loop-i.invariant _ (omega arith) (omega arith) c.faded_weight.ensures
 
 pub returns : goal.returns
-returns c = gather_ends c.loop-i.invariant c.loop-i-test.false
+returns c = gathered_all c.loop-i.invariant (omega arith)

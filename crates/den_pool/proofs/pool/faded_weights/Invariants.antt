@@ -1,11 +1,7 @@
-use Prim.Native.Nat.{◌-◌}
-use Rattle.den_pool.specs.Held.{weight_of}
-use Rattle.lists.specs.Laws.Counted.{Gathered}
 use Rattle.model.specs.Limits.{micros_most}
+use Rattle.den_pool.specs.Held.{weight_of}
+use Rattle.den_pool.proofs.Pools.{Gathered}
 use Rattle.den_pool.proofs.pool.faded_weights.Given as goal
 
 abbrev pub invariant-loop-i : goal.invariant-loop-i
-invariant-loop-i l = Gathered (weight_of l.lambda l.t) micros_most l.n l.k l.pool l.w l.i
-
-abbrev pub decreases-loop-i : goal.decreases-loop-i
-decreases-loop-i l = l.k - l.i
+invariant-loop-i l = Gathered (weight_of l.lambda l.t) micros_most l.pool l.weights l.i

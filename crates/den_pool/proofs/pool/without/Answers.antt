@@ -1,28 +1,12 @@
 -- `without` meets its contract. Assumes nothing.
+use mathlib.Core.Path.{◌∙◌}
 use native.Mathlib.Omega.{arith}
-use Rattle.den_pool.proofs.Removal.{shift_from, shift_next, shifted, without_none}
+use Rattle.std.proofs.lemmas.List.{take_all}
+use Rattle.den_pool.proofs.Pools.{without_past, without_rotated}
 use Rattle.den_pool.proofs.pool.without.Goals as goal
 
-pub returns-then-k-place : goal.returns-then-k-place
-returns-then-k-place c =
-    let a = c.args in
-    let all = without_none a.n _ a.pool c.cut-k.ensures (omega arith) a.place c.if-k-place.true in
-    record { result_value = all.0; counted = all.1 }
+pub returns-then-pool-place-clause-result_value : goal.returns-then-pool-place-clause-result_value
+returns-then-pool-place-clause-result_value c = take_all _ c.args.pool.now (omega arith) ∙ without_past _ _ c.if-pool-place.true
 
-pub loop-i-init : goal.loop-i-init
-loop-i-init c =
-    let a = c.args in
-    shift_from a.n a.place a.pool _ c.cut-k.ensures (omega arith) c.if-k-place.false
-
-pub loop-i-preserved : goal.loop-i-preserved
-loop-i-preserved c =
-    let a = c.args in
-    let l = c.loop-i in
-    shift_next a.n a.place a.pool _ l.pool l.i l.invariant _ c.loop-i-test.true
-
-pub returns : goal.returns
-returns c =
-    let a = c.args in
-    let l = c.loop-i in
-    let all = shifted a.n a.place a.pool _ l.pool l.i l.invariant c.loop-i-test.false in
-    record { result_value = all.0; counted = all.1 }
+pub returns-clause-result_value : goal.returns-clause-result_value
+returns-clause-result_value c = without_rotated c.args.place _ c.args.pool.now _ c.if-pool-place.false (omega arith) c.rotate_left.ensures.after
