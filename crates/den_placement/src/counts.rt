@@ -8,12 +8,12 @@ use model::MICROS;
 pub fn potential_held(potential_count: usize) -> usize
     ensures { result ≡ potential_held potential_count }
 {
-    lists::cut(potential_count, MICROS)
+    potential_count.min(MICROS)
 }
 
 // No more than the places that the potential ones leave.
 pub fn outliers_held(potential_count: usize, outlier_count: usize) -> usize
     ensures { result ≡ outliers_held potential_count outlier_count }
 {
-    lists::cut(outlier_count, MICROS - lists::cut(potential_count, MICROS))
+    outlier_count.min(MICROS - potential_held(potential_count))
 }

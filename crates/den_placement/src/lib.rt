@@ -4,5 +4,5 @@
 mod choice;
 mod counts;
 
-pub use choice::{Placement, Target, place};
+pub use choice::{Placed, Placement, Target, place};
 pub use counts::{outliers_held, potential_held};

@@ -1,146 +1,113 @@
 -- A point's placement is document 01's: whether it has a place, its drift distance, and what becomes of the stream. Assumes nothing.
-use Rattle.std.specs.Prelude.{ℕ, ◌+◌, ◌<◌, ◌≡◌, refl, Bool, ◌||◌, List, [], ◌∷◌, ◌++◌, Float, length, set}
-use Rattle.std.proofs.Math.Path.{ap, ap₂}
-use Rattle.std.proofs.Common.{sym, ◌∙◌, arith, ltb-true}
-use Rattle.std.proofs.Math.Bool.{true, false, cond}
-use Rattle.std.proofs.Math.Option.{Option, none, some}
+use Rattle.std.specs.Prelude.{◌+◌, ◌<◌, ◌≡◌, refl, Bool, true, false, cond, ◌||◌, List, [], ◌∷◌, ◌++◌, Float, length, set, None, Some}
+use Rattle.std.specs.Bool.{then_some}
+use Rattle.std.specs.Option.{is_some}
 use Rattle.std.specs.Float.Ieee.{le}
+use Rattle.std.proofs.Common.{sym, ap, subst, ltb-true}
+use Rattle.std.proofs.Math.Option.{none, some}
+use Rattle.std.proofs.Math.Option as math
 use Rattle.lists.specs.Retain.{without}
+use Rattle.drift.specs.Monitor.{Nearest}
 use Rattle.model.specs.declared.micro.DenMicro.{DenMicro}
 use Rattle.model.specs.Limits.{micros_most}
 use Rattle.model.specs.Nearest.{Near}
-use Rattle.model.specs.DenState.{pooled, State}
+use Rattle.model.specs.DenState.{Holdings, pooled, State}
 use Rattle.model.specs.DenInsert as doc
 use Rattle.model.specs.DenInsert.{nearest_in, trial_in, is_there, distance_of, smaller_of, nearest_for, placed_by, newborn}
 use Rattle.model.specs.Denstream.{has_place}
-use Rattle.den_pool.specs.declared.trial.Trial.{Trial}
-use Rattle.den_pool.specs.Tried.{tried_of}
-use Rattle.den_pool.specs.Laws.Tried.{taker_of, tried_trial, tried_near, tried_low}
-use Rattle.den_placement.specs.declared.choice.Target.TheVariants.{Potential, Promotion, Outlier, Newborn, Nowhere}
+use Rattle.den_pool.specs.Tried.{absorbed_of}
+use Rattle.den_pool.specs.Laws.Tried.{tried_low}
+use Rattle.den_placement.specs.declared.choice.Target.TheVariants.{Promotion, Outlier, Newborn}
+use Rattle.den_placement.specs.declared.choice.Placed.{Placed}
 use Rattle.den_placement.specs.declared.choice.Placement.{Placement}
-use Rattle.den_placement.specs.Placing.{takes, else_by, placement_by, has_room, placement_of, pooled_at, Ready}
-use Rattle.drift.specs.Monitor.{Nearest}
+use Rattle.den_placement.specs.Placing.{placement_by, has_room, placement_of, pooled_at, Ready}
 
 -- the placement r of the point x in the stream s
 pub record Placing (s : State) (x : List Float) (r : Placement) : Type 0 where
-  pub fits : takes r.target ≡ has_place s x
+  pub fits : is_some r.placed ≡ has_place s x
   pub near : r.near ≡ nearest_for s x
-  pub placed : takes r.target ≡ true → pooled_at r.target r.place r.micro s.held ≡ doc.placed s x
-  pub ready : Ready r.target r.place s.held
+  pub placed : (k : Placed) → r.placed ≡ Some k → pooled_at k.target k.micro s.held ≡ doc.placed s x
+  pub ready : (k : Placed) → r.placed ≡ Some k → Ready k.target s.held
 
--- a trial of a pool, as document 01's definitions have it
-record Trying (s : State) (x : List Float) (pool : List DenMicro) (a : Trial) : Type 0 where
-  taken : trial_in s x pool ≡ cond a.stands (some (taker_of a)) none
-  near : a.near ≡ distance_of (nearest_in x pool)
-  low : a.stands ≡ true → a.place < length pool
+-- the place of the one that takes the point is one of the pool
+abbrev Low : math.Option (Near DenMicro) → List DenMicro → Type 0
+Low none pool = Unit {0}
+Low (some b) pool = b.place < length pool
 
-trying : (s : State) (x : List Float) (pool : List DenMicro) → Trying s x pool (tried_of s.params s.t x pool)
-trying s x pool =
-    record {
-      taken = tried_trial s.params s.t x (nearest_in x pool);
-      near = tried_near s.params s.t x (nearest_in x pool);
-      low = tried_low s.params s.t x pool;
-    }
+trial_low : (s : State) (x : List Float) (pool : List DenMicro) → Low (trial_in s x pool) pool
+trial_low s x pool = go (trial_in s x pool) refl
+  where
+    go : (o : math.Option (Near DenMicro)) → trial_in s x pool ≡ o → Low o pool
+    go none e = tt
+    go (some b) e = tried_low s.params s.t x pool (record { place = b.place; micro = b.micro }) (ap absorbed_of e)
 
-module _ (s : State) (x : List Float) (a b : Trial) (ea : Trying s x s.held.potential a) (eb : Trying s x s.held.outliers b) where
+module _ (s : State) (x : List Float) where
   abbrev room : Bool
   room = has_room s.held
 
-  -- the placements that there can be, by the outlier's weight and by the room
-  abbrev merged : Placement
-  merged = record { target = Potential; place = a.place; micro = a.micro; near = a.near }
+  abbrev from_potential : Nearest
+  from_potential = distance_of (nearest_in x s.held.potential)
 
-  abbrev near : Nearest
-  near = smaller_of a.near b.near
+  abbrev from_outliers : Nearest
+  from_outliers = distance_of (nearest_in x s.held.outliers)
 
-  abbrev grown : Bool → Placement
-  grown u = record { target = cond u Promotion Outlier; place = b.place; micro = b.micro; near = near }
+  -- a placement, by those who take the point
+  record By (a b : math.Option (Near DenMicro)) (r : Placement) : Type 0 where
+    fits : is_some r.placed ≡ ((is_there a || is_there b) || room)
+    near : r.near ≡ cond (is_there a) from_potential (smaller_of from_potential from_outliers)
+    placed : (k : Placed) → r.placed ≡ Some k → pooled_at k.target k.micro s.held ≡ placed_by s x a b
+    ready : (k : Placed) → r.placed ≡ Some k → Ready k.target s.held
 
-  abbrev alone : Bool → Placement
-  alone u = record { target = cond u Newborn Nowhere; place = 0; micro = newborn s.params.settings.dim s.t x; near = near }
+  -- what is held once an outlier took the point, by whether it is heavy enough
+  abbrev by_heavy : Near DenMicro → Bool → Holdings
+  by_heavy b u =
+      cond u (pooled (s.held.potential ++ b.micro ∷ []) (without b.place s.held.outliers)) (pooled s.held.potential (set s.held.outliers b.place b.micro))
 
-  abbrev heavy : Bool
-  heavy = le s.params.bm b.micro.body.cf.w
+  -- what is placed is k, which goes where it belongs
+  module _ (a b : math.Option (Near DenMicro)) (k : Placed) (there : ((is_there a || is_there b) || room) ≡ true)
+      (held : pooled_at k.target k.micro s.held ≡ placed_by s x a b) (ready : Ready k.target s.held) where
+    by_placed : (near : Nearest) → near ≡ cond (is_there a) from_potential (smaller_of from_potential from_outliers) → By a b (record { placed = Some k; near = near })
+    by_placed near e =
+        record {
+          fits = sym there;
+          near = e;
+          placed = λ j h. subst (λ (i : Placed). pooled_at i.target i.micro s.held ≡ placed_by s x a b) (let q : k ≡ j = cc in q) held;
+          ready = λ j h. subst (λ (i : Placed). Ready i.target s.held) (let q : k ≡ j = cc in q) ready;
+        }
 
-  taken_by : {pool : List DenMicro} {c : Trial} (e : Trying s x pool c) (u : Bool) → c.stands ≡ u → trial_in s x pool ≡ cond u (some (taker_of c)) none
-  taken_by {pool} {c} e u h = e.taken ∙ ap (λ (v : Bool). cond v (some (taker_of c)) none) h
+  -- an outlier takes it, and moves to the potential ones or stays, by its weight
+  by_weight :
+      (b : Near DenMicro) → b.place < length s.held.outliers → (u : Bool) → le s.params.bm b.micro.body.cf.w ≡ u →
+      By none (some b)
+      (record {
+        placed = Some (record { target = cond u (Promotion b.place) (Outlier b.place); micro = b.micro });
+        near = smaller_of from_potential from_outliers;
+      })
+  by_weight b low true e =
+      by_placed none (some b) (record { target = Promotion b.place; micro = b.micro }) refl
+      (ap (by_heavy b) (sym e)) low (smaller_of from_potential from_outliers) refl
+  by_weight b low false e =
+      by_placed none (some b) (record { target = Outlier b.place; micro = b.micro }) refl
+      (ap (by_heavy b) (sym e)) low (smaller_of from_potential from_outliers) refl
 
-  -- the potential pool's nearest takes the point
-  by_potential : a.stands ≡ true → Placing s x merged
-  unfolding nearest_for doc.placed
-  by_potential h =
-      let i : trial_in s x s.held.potential ≡ some (taker_of a) = taken_by ea true h in
-      let p : Nearest = distance_of (nearest_in x s.held.potential) in
-      let q : Nearest = distance_of (nearest_in x s.held.outliers) in
-      record {
-        fits = ap (λ (o : Option (Near DenMicro)). (is_there o || is_there (trial_in s x s.held.outliers)) || room) (sym i);
-        near = ea.near ∙ ap (λ (o : Option (Near DenMicro)). cond (is_there o) p (smaller_of p q)) (sym i);
-        placed = λ k. ap (λ (o : Option (Near DenMicro)). placed_by s x o (trial_in s x s.held.outliers)) (sym i);
-        ready = ea.low h;
-      }
+  -- a new outlier, or none
+  by_room :
+      (u : Bool) → room ≡ u →
+      By none none (record { placed = then_some u (record { target = Newborn; micro = newborn s.params.settings.dim s.t x }); near = smaller_of from_potential from_outliers })
+  by_room true e =
+      by_placed none none (record { target = Newborn; micro = newborn s.params.settings.dim s.t x }) e refl
+      (ltb-true (length s.held.potential + length s.held.outliers) micros_most e) (smaller_of from_potential from_outliers) refl
+  by_room false e = record { fits = sym e; near = refl; placed = λ k h. cc; ready = λ k h. absurd cc }
 
-  module _ (h : a.stands ≡ false) where
-    near_is : near ≡ nearest_for s x
-    unfolding nearest_for
-    near_is =
-        let p : Nearest = distance_of (nearest_in x s.held.potential) in
-        let q : Nearest = distance_of (nearest_in x s.held.outliers) in
-        ap₂ smaller_of ea.near eb.near ∙ ap (λ (o : Option (Near DenMicro)). cond (is_there o) p (smaller_of p q)) (sym (taken_by ea false h))
-
-    fits_is : (u : Bool) → b.stands ≡ u → is_there (cond u (some (taker_of b)) none) || room ≡ has_place s x
-    fits_is u k = ap₂ (λ (o i : Option (Near DenMicro)). (is_there o || is_there i) || room) (sym (taken_by ea false h)) (sym (taken_by eb u k))
-
-    placed_is : (u : Bool) → b.stands ≡ u → placed_by s x none (cond u (some (taker_of b)) none) ≡ doc.placed s x
-    unfolding doc.placed
-    placed_is u k = ap₂ (λ (o i : Option (Near DenMicro)). placed_by s x o i) (sym (taken_by ea false h)) (sym (taken_by eb u k))
-
-    -- the nearest outlier takes it, and moves or stays
-    by_outlier : b.stands ≡ true → Placing s x (grown heavy)
-    by_outlier k = go heavy (placed_is true k)
-      where
-        go :
-            (u : Bool) →
-            cond u (pooled (s.held.potential ++ b.micro ∷ []) (without b.place s.held.outliers))
-            (pooled s.held.potential (set s.held.outliers b.place b.micro)) ≡ doc.placed s x →
-            Placing s x (grown u)
-        go true w = record { fits = fits_is true k; near = near_is; placed = λ y. w; ready = eb.low k }
-        go false w = record { fits = fits_is true k; near = near_is; placed = λ y. w; ready = eb.low k }
-
-    -- a new outlier, or none
-    by_newborn : b.stands ≡ false → Placing s x (alone room)
-    by_newborn k = go room refl (fits_is false k)
-      where
-        go : (u : Bool) → room ≡ u → u ≡ has_place s x → Placing s x (alone u)
-        go true e w =
-            record {
-              fits = w;
-              near = near_is;
-              placed = λ y. placed_is false k;
-              ready = ltb-true (length s.held.potential + length s.held.outliers) micros_most e;
-            }
-        go false e w =
-            record {
-              fits = w;
-              near = near_is;
-              placed = λ y. let z : ◌≡◌ {A = ℕ} 0 1 = cc in absurd (omega arith);
-              ready = tt;
-            }
-
-    by_others : Placing s x (else_by s.params s.t x room near b)
-    by_others = go b.stands refl
-      where
-        go : (u : Bool) → b.stands ≡ u → Placing s x (cond u (grown heavy) (alone room))
-        go true k = by_outlier k
-        go false k = by_newborn k
-
-  by_trials : Placing s x (placement_by s.params s.t x room a b)
-  by_trials = go a.stands refl
-    where
-      go : (u : Bool) → a.stands ≡ u → Placing s x (cond u merged (else_by s.params s.t x room near b))
-      go true h = by_potential h
-      go false h = by_others h
+  by_takers :
+      (a b : math.Option (Near DenMicro)) → Low a s.held.potential → Low b s.held.outliers →
+      By a b (placement_by s.params s.t x room from_potential (absorbed_of a) (record { near = from_outliers; taken = absorbed_of b }))
+  by_takers (some a) b h k = by_placed (some a) b (record { target = _; micro = a.micro }) refl refl h from_potential refl
+  by_takers none (some b) h k = by_weight b k (le s.params.bm b.micro.body.cf.w) refl
+  by_takers none none h k = by_room room refl
 
 pub placing_law : (s : State) (x : List Float) → Placing s x (placement_of s.params s.t s.held x)
+unfolding nearest_for doc.placed
 placing_law s x =
-    by_trials s x (tried_of s.params s.t x s.held.potential) (tried_of s.params s.t x s.held.outliers)
-    (trying s x s.held.potential) (trying s x s.held.outliers)
+    let q = by_takers s x (trial_in s x s.held.potential) (trial_in s x s.held.outliers) (trial_low s x s.held.potential) (trial_low s x s.held.outliers) in
+    record { fits = q.fits; near = q.near; placed = q.placed; ready = q.ready }
