@@ -33,51 +33,61 @@ const SIXTY_FIVE: u64 = 0x4050_4000_0000_0000;
 
 const NAN: u64 = 0x7ff8_0000_0000_0000;
 
+// The words of the settings, doubles by their bits.
+#[derive(Clone, Copy)]
+struct Settings {
+    dim: u64,
+    r: u64,
+    lambda: u64,
+    alpha: u64,
+    min_weight: u64,
+}
+
+// "1, 1, 2^-10, 0.5, 1".
+const PLAIN: Settings = Settings {
+    dim: 1,
+    r: ONE,
+    lambda: LAMBDA,
+    alpha: HALF,
+    min_weight: ONE,
+};
+
 // What `families` prints for an input, under its heading.
 fn show(heading: &[u8], input: &[u8]) {
     let mut output = io::buffer();
-    let written = families_text::families(input, &mut output);
-    let n = written.count(&output);
     io::write_all(STDOUT, heading);
     io::write_all(STDOUT, b":\n");
-    io::write_all(STDOUT, &output[..n]);
+    if let Ok(n) = families_text::families(input, &mut output) {
+        io::write_all(STDOUT, &output[..n]);
+    }
 }
 
 // The first n bytes of the room.
 fn case(heading: &[u8], room: &[u8; ROOM], n: usize) {
-    let bytes: &[u8] = room;
-    if n <= bytes.len() {
-        show(heading, &bytes[..n]);
+    if let Some(input) = room.get(..n) {
+        show(heading, input);
     }
 }
 
 // A word at its place among the words.
 fn set_word(room: &mut [u8; ROOM], place: usize, word: u64) {
-    if WORDS <= place {
-        return;
-    }
-    let mut rest = word;
-    let mut i: usize = 0;
-    while i < 8 {
-        room[place * 8 + i] = (rest % 256) as u8;
-        rest /= 256;
-        i += 1;
+    if place < WORDS {
+        room[place * 8..place * 8 + 8].copy_from_slice(&word.to_le_bytes());
     }
 }
 
-// The settings.
-fn set_head(room: &mut [u8; ROOM], dim: u64, r: u64, lambda: u64, alpha: u64, min_weight: u64) {
-    set_word(room, 0, dim);
-    set_word(room, 1, r);
-    set_word(room, 2, lambda);
-    set_word(room, 3, alpha);
-    set_word(room, 4, min_weight);
+fn set_head(room: &mut [u8; ROOM], settings: Settings) {
+    set_word(room, 0, settings.dim);
+    set_word(room, 1, settings.r);
+    set_word(room, 2, settings.lambda);
+    set_word(room, 3, settings.alpha);
+    set_word(room, 4, settings.min_weight);
 }
 
 // "Input 1, 1, 2^-10, 0.5, 1 and points 0, 1.5, 0.75", with an alpha, cut at n bytes.
 fn example(heading: &[u8], alpha: u64, n: usize) {
     let mut room = [0u8; ROOM];
-    set_head(&mut room, 1, ONE, LAMBDA, alpha, ONE);
+    set_head(&mut room, Settings { alpha, ..PLAIN });
     set_word(&mut room, 5, NOUGHT);
     set_word(&mut room, 6, ONE_AND_A_HALF);
     set_word(&mut room, 7, THREE_QUARTERS);
@@ -93,15 +103,15 @@ fn examples() {
 }
 
 // Settings with zeros after them, cut at n bytes.
-fn opening(heading: &[u8], dim: u64, r: u64, lambda: u64, alpha: u64, min_weight: u64, n: usize) {
+fn opening(heading: &[u8], settings: Settings, n: usize) {
     let mut room = [0u8; ROOM];
-    set_head(&mut room, dim, r, lambda, alpha, min_weight);
+    set_head(&mut room, settings);
     case(heading, &room, n);
 }
 
 // Settings of a dim, cut at n bytes.
 fn dim(heading: &[u8], dim: u64, n: usize) {
-    opening(heading, dim, ONE, LAMBDA, HALF, ONE, n);
+    opening(heading, Settings { dim, ..PLAIN }, n);
 }
 
 // The lengths around the settings'.
@@ -136,35 +146,65 @@ fn in_range() {
 
 // The other questions of the opening; the input's length is asked about before them.
 fn openings() {
-    opening(b"r -1", 1, MINUS_ONE, LAMBDA, HALF, ONE, 40);
-    opening(b"r -1 and 41 bytes", 1, MINUS_ONE, LAMBDA, HALF, ONE, 41);
-    opening(b"lambda 65", 1, ONE, SIXTY_FIVE, HALF, ONE, 40);
-    opening(b"alpha 0", 1, ONE, LAMBDA, NOUGHT, ONE, 40);
-    opening(b"min_weight NaN", 1, ONE, LAMBDA, HALF, NAN, 40);
+    opening(
+        b"r -1",
+        Settings {
+            r: MINUS_ONE,
+            ..PLAIN
+        },
+        40,
+    );
+    opening(
+        b"r -1 and 41 bytes",
+        Settings {
+            r: MINUS_ONE,
+            ..PLAIN
+        },
+        41,
+    );
+    opening(
+        b"lambda 65",
+        Settings {
+            lambda: SIXTY_FIVE,
+            ..PLAIN
+        },
+        40,
+    );
+    opening(
+        b"alpha 0",
+        Settings {
+            alpha: NOUGHT,
+            ..PLAIN
+        },
+        40,
+    );
+    opening(
+        b"min_weight NaN",
+        Settings {
+            min_weight: NAN,
+            ..PLAIN
+        },
+        40,
+    );
 }
 
 // The points 4, 8, 16, .. : as many words from a place on.
-fn set_apart(room: &mut [u8; ROOM], start: usize, count: u8) {
-    if WORDS <= start {
-        return;
-    }
-    let mut i: u8 = 0;
-    while i < count {
+fn set_apart(room: &mut [u8; ROOM], start: u16, count: u8) {
+    for i in 0..count {
         set_word(
             room,
-            start + i as usize,
+            start as usize + i as usize,
             (1025 + i as u64) * 0x10_0000_0000_0000,
         );
-        i += 1;
     }
 }
 
 // The first count of these points, and the first of them again, cut at n bytes.
 fn apart(heading: &[u8], count: u8, again: u8, n: usize) {
     let mut room = [0u8; ROOM];
-    set_head(&mut room, 1, ONE, LAMBDA, HALF, ONE);
+    set_head(&mut room, PLAIN);
     set_apart(&mut room, 5, count);
-    set_apart(&mut room, 5 + count as usize, again);
+    set_apart(&mut room, 5 + count as u16, again);
     case(heading, &room, n);
 }
 
