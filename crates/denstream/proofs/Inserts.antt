@@ -1,48 +1,76 @@
 -- An insert into the arrays, seen through the view. Assumes nothing.
 use Prim.Native.Nat.{ℕ}
-use mathlib.Core.Path.{◌≡◌, sym, ◌∙◌, subst}
-use mathlib.Core.Bool.{Bool, true, cond}
+use mathlib.Core.Path.{◌≡◌, refl, sym, ap, ◌∙◌, subst}
+use mathlib.Core.Bool.{Bool, true, false}
 use mathlib.Core.List.{List}
 use lib.Ieee.{Float}
 use lib.ListN.{length}
+use Rattle.std.specs.Prelude.{Option, None, Some, Err}
+use Rattle.std.specs.Option.{is_some}
+use Rattle.model.specs.declared.answers.InsertError.{InsertError}
+use Rattle.model.specs.declared.answers.InsertError.TheVariants.{Shape, ClockAtLimit, NoPlace}
 use Rattle.model.specs.Answers.{is_done, Insertion}
 use Rattle.model.specs.Questions.{insertion_asked}
 use Rattle.model.specs.Laws.Insert.{taken_asks}
 use Rattle.model.proofs.Laws.Stream.{inserted_by}
 use Rattle.model.specs.DenState.{State}
-use Rattle.model.specs.Denstream.{denstream, tick_of, insert_of}
+use Rattle.model.specs.DenInsert as doc
+use Rattle.model.specs.DenInsert.{nearest_for}
+use Rattle.model.specs.Denstream.{denstream, tick_of, has_place, insert_of}
+use Rattle.den_pool.specs.Held.{micro_in}
+use Rattle.den_placement.specs.declared.choice.Placed.{Placed}
 use Rattle.den_placement.specs.declared.choice.Placement.{Placement}
-use Rattle.den_placement.specs.Placing.{takes, placement_of, placement_told}
+use Rattle.den_placement.specs.Placing.{Ready, placement_of, placed_told, placement_told}
 use Rattle.den_placement.specs.Laws.Placing.{Placing, placing_law}
 use Rattle.denstream.specs.declared.stream.DenStream.{DenStream}
 use Rattle.denstream.specs.View.{view, dim_of}
 use Rattle.denstream.specs.Inside.Placed.{held_by, placed_by}
 
--- what is known once x is measured, of which y is the first d places: p is the placement of y
-pub record Met (s : DenStream) (x y : List Float) (d : ℕ) (p : Placement) : Type 0 where
-  pub coordinates : d ≡ dim_of s
-  pub point : length x ≡ d → y ≡ x
-  pub placement : placement_told (dim_of s) p ≡ placement_of (view s).params s.t (view s).held y
+told_some : (dim : ℕ) (o : Option Placed) → is_some o ≡ is_some (placed_told dim o)
+told_some dim None = refl
+told_some dim (Some k) = refl
 
-module _ {s : DenStream} {x y : List Float} {d : ℕ} {p : Placement} (m : Met s x y d p) where
-  pub placing : Placing (view s) y (placement_told (dim_of s) p)
-  placing = subst (Placing (view s) y) (sym m.placement) (placing_law (view s) y)
+pub error_refuses : (e : InsertError) → is_done (Err e) ≡ false
+error_refuses (Shape expected got) = refl
+error_refuses ClockAtLimit = refl
+error_refuses NoPlace = refl
 
-  met : length x ≡ d → Placing (view s) x (placement_told (dim_of s) p)
-  met h = subst (λ (z : List Float). Placing (view s) z (placement_told (dim_of s) p)) (m.point h) placing
+-- p is the placement of a point of the stream's coordinates
+abbrev pub Met : DenStream → List Float → Placement → Type 0
+Met s x p = length x ≡ dim_of s → placement_told (dim_of s) p ≡ placement_of (view s).params s.t (view s).held x
 
--- ---- the whole insert
-module _
-    {s : DenStream} {x y : List Float} {d : ℕ} {p : Placement} (m : Met s x y d p)
-    (a : Insertion) (place : Bool) (ep : place ≡ takes p.target) (e : a ≡ insertion_asked d (length x) s.t place) where
-  -- a point that is taken has a place
-  pub room : (b : Bool) → b ≡ is_done a → b ≡ true → takes p.target ≡ true
-  room b h q = sym ep ∙ (taken_asks d (length x) s.t place a e (sym h ∙ q)).1
+-- a is the answer to the questions about x, of which the last is whether p has a place
+module _ (s : DenStream) (x : List Float) (p : Placement) (m : Met s x p) (d : ℕ) (ed : d ≡ dim_of s)
+    (place : Bool) (ep : place ≡ is_some p.placed) (a : Insertion) (ea : a ≡ insertion_asked d (length x) s.t place) where
+  placing : length x ≡ d → Placing (view s) x (placement_told (dim_of s) p)
+  placing h = subst (Placing (view s) x) (sym (m (h ∙ ed))) (placing_law (view s) x)
 
-  -- v is what becomes of the stream, by whether the answer is no refusal
-  pub inserted :
-      (b : Bool) (v : State) → b ≡ is_done a → v ≡ cond b (tick_of (placed_by s p) p.near) (view s) →
-      record { answer = a; stream = v } ≡ insert_of (view s) x
-  inserted b v eb ev =
-      inserted_by denstream (view s) x d place (held_by s p) p.near a b v m.coordinates (λ h. ep ∙ (met m h).fits)
-      (λ h q. (met m h).placed (sym ep ∙ q)) (λ h. (met m h).near) e eb ev
+  fits : length x ≡ d → place ≡ has_place (view s) x
+  fits h = ep ∙ told_some (dim_of s) p.placed ∙ (placing h).fits
+
+  -- r is the answer told
+  pub refused : (r : Insertion) → r ≡ a → is_done a ≡ false → record { answer = r; stream = view s } ≡ insert_of (view s) x
+  refused r e h =
+      ap (λ (i : Insertion). record { answer = i; stream = view s }) e
+      ∙ inserted_by denstream (view s) x d place (doc.placed (view s) x) (nearest_for (view s) x) a false (view s) ed fits
+      (λ h q. refl) (λ h. refl) ea (sym h) refl
+
+  -- the point is taken
+  module _ (done : is_done a ≡ true) where
+    asks : (length x ≡ d) × (place ≡ true)
+    asks = taken_asks d (length x) s.t place a ea done
+
+    pub there : is_some p.placed ≡ true
+    there = sym ep ∙ asks.1
+
+    module _ (k : Placed) (e : p.placed ≡ Some k) where
+      pub ready : Ready k.target (view s).held
+      ready = (placing asks.0).ready (record { target = k.target; micro = micro_in (dim_of s) k.micro }) (ap (placed_told (dim_of s)) e)
+
+      -- v is what becomes of the stream
+      pub taken : (r : Insertion) → a ≡ r → (v : State) → v ≡ tick_of (placed_by s k) p.near → record { answer = r; stream = v } ≡ insert_of (view s) x
+      taken r ar v ev =
+          ap (λ (i : Insertion). record { answer = i; stream = v }) (sym ar)
+          ∙ inserted_by denstream (view s) x d place (held_by s k) p.near a true v ed fits
+          (λ h q. (placing h).placed (record { target = k.target; micro = micro_in (dim_of s) k.micro }) (ap (placed_told (dim_of s)) e))
+          (λ h. (placing h).near) ea (sym done) ev

@@ -1,30 +1,40 @@
 -- A point at its place: places that lie in the arrays, and what the stream is before its tick. Assumes nothing.
-use Prim.Native.Nat.{ℕ, ◌+◌, ◌<◌}
-use mathlib.Core.Path.{◌≡◌, ap}
-use mathlib.Core.List.{List}
-use lib.ListN.{length, take, set}
+use Prim.Native.Nat.{ℕ, ◌+◌, ◌≤◌, ◌<◌}
+use mathlib.Core.Path.{◌≡◌, sym, ap, ◌∙◌, subst}
+use mathlib.Core.List.{List, ◌++◌}
+use native.Mathlib.Omega.{arith}
+use lib.ListN.{length, take, set, length-take, length-append}
+use lib.Seq.{length-take-le, take-append-le}
 use Rattle.lists.specs.Retain.{without}
 use Rattle.model.specs.declared.micro.DenMicro.{DenMicro}
 use Rattle.model.specs.Limits.{micros_most}
 use Rattle.model.specs.Stream.{taking}
-use Rattle.den_pool.specs.declared.pool.Pool.{Pool}
-use Rattle.den_pool.specs.Held.{held}
+use Rattle.den_pool.specs.Held.{micro_in}
+use Rattle.den_placement.specs.declared.choice.Target.{Target}
 use Rattle.den_placement.specs.declared.choice.Target.TheVariants.{Potential, Promotion, Outlier, Newborn}
-use Rattle.den_placement.specs.declared.choice.Placement.{Placement}
+use Rattle.den_placement.specs.declared.choice.Placed.{Placed}
 use Rattle.den_placement.specs.Pools.{potential_held, outliers_held}
-use Rattle.den_placement.specs.Placing.{Ready}
+use Rattle.den_placement.specs.Placing.{Ready, pooled_at}
 use Rattle.den_placement.specs.Laws.Pools as laws
 use Rattle.denstream.specs.declared.stream.DenStream.{DenStream}
 use Rattle.denstream.specs.View.{view, dim_of, held_in}
 use Rattle.denstream.specs.Inside.Placed.{placed_by}
 
--- the pools hold np and no micro-clusters
-pub record Counted (s : DenStream) (p : Placement) (np no : ℕ) : Type 0 where
+-- ---- an array of which the first places were written: its first k elements
+module _ {A : Type 0} (k : ℕ) (front rest : List A) (h : k ≤ length front) where
+  pub front_is : (kept : List A) → take k front ≡ kept → take k (front ++ rest) ≡ kept
+  front_is kept e = take-append-le k front rest h ∙ e
+
+  pub front_length : k ≡ length (take k (front ++ rest))
+  front_length = sym (length-take-le k (front ++ rest) (omega (arith, length-append front rest)))
+
+-- the pools hold np and no micro-clusters, and are ready for the target
+pub record Counted (s : DenStream) (k : Placed) (np no : ℕ) : Type 0 where
   pub potential_size : length s.potential ≡ micros_most
   pub outliers_size : length s.outliers ≡ micros_most
-  pub potential_held_lem : np ≡ potential_held s.potential_count
-  pub outliers_held_lem : no ≡ outliers_held s.potential_count s.outlier_count
-  pub ready : Ready p.target p.place (view s).held
+  pub np_is : np ≡ potential_held s.potential_count
+  pub no_is : no ≡ outliers_held s.potential_count s.outlier_count
+  pub ready : Ready k.target (view s).held
 
 -- s over other pools and without labels; and over its own
 abbrev pub over : DenStream → (potential : List DenMicro) → ℕ → (outliers : List DenMicro) → ℕ → DenStream
@@ -44,64 +54,79 @@ over s a n b k =
 abbrev pub cleared : DenStream → DenStream
 cleared s = over s s.potential s.potential_count s.outliers s.outlier_count
 
-module _ {s : DenStream} {p : Placement} {np no : ℕ} (c : Counted s p np no) where
-  pub potential_low : p.target ≡ Potential → p.place < micros_most
+module _ {s : DenStream} {k : Placed} {np no : ℕ} (c : Counted s k np no) where
+  potential_length : length (view s).held.potential ≡ np
   unfolding held_in
-  potential_low e =
-      laws.potential_low (dim_of s) s.potential s.potential_count s.outliers s.outlier_count p.target p.place
-      p.micro c.ready e c.potential_size
+  potential_length = laws.potential_length (dim_of s) s.potential s.potential_count s.outliers s.outlier_count c.potential_size c.outliers_size ∙ sym c.np_is
 
-  pub outlier_low : p.target ≡ Outlier → p.place < micros_most
+  outliers_length : length (view s).held.outliers ≡ no
   unfolding held_in
-  outlier_low e =
-      laws.outlier_low (dim_of s) s.potential s.potential_count s.outliers s.outlier_count p.target p.place
-      p.micro c.ready e c.outliers_size
+  outliers_length = laws.outliers_length (dim_of s) s.potential s.potential_count s.outliers s.outlier_count c.potential_size c.outliers_size ∙ sym c.no_is
 
-  pub promotion_low : p.target ≡ Promotion → np < micros_most
-  unfolding held_in
-  promotion_low e =
-      laws.promotion_low (dim_of s) s.potential s.potential_count s.outliers s.outlier_count c.potential_size
-      c.outliers_size np c.potential_held_lem no c.outliers_held_lem p.target p.place p.micro c.ready e
+  ready_for : (u : Target) → k.target ≡ u → Ready u (view s).held
+  ready_for u e = subst (λ (v : Target). Ready v (view s).held) e c.ready
 
-  pub newborn_low : p.target ≡ Newborn → np + no < micros_most
-  unfolding held_in
+  pub potential_low : (place : ℕ) → k.target ≡ Potential place → place < micros_most
+  potential_low place e =
+      let q : place < length (view s).held.potential = ready_for (Potential place) e in
+      omega (arith, q, potential_length, c.np_is)
+
+  pub outlier_low : (place : ℕ) → k.target ≡ Outlier place → place < micros_most
+  outlier_low place e =
+      let q : place < length (view s).held.outliers = ready_for (Outlier place) e in
+      omega (arith, q, outliers_length, c.no_is)
+
+  pub promotion_low : (place : ℕ) → k.target ≡ Promotion place → np < micros_most
+  promotion_low place e =
+      let q : place < length (view s).held.outliers = ready_for (Promotion place) e in
+      omega (arith, q, outliers_length, c.no_is, c.np_is)
+
+  pub newborn_low : k.target ≡ Newborn → np + no < micros_most
   newborn_low e =
-      laws.newborn_low (dim_of s) s.potential s.potential_count s.outliers s.outlier_count c.potential_size
-      c.outliers_size np c.potential_held_lem no c.outliers_held_lem p.target p.place p.micro c.ready e
+      let q : length (view s).held.potential + length (view s).held.outliers < micros_most = ready_for Newborn e in
+      omega (arith, q, potential_length, outliers_length)
+
+  -- what a target makes of the pools, of the one that the micro-cluster goes to
+  at_target : (u : Target) → k.target ≡ u → pooled_at u (micro_in (dim_of s) k.micro) (view s).held ≡ pooled_at k.target (micro_in (dim_of s) k.micro) (view s).held
+  at_target u e = ap (λ (v : Target). pooled_at v (micro_in (dim_of s) k.micro) (view s).held) (sym e)
 
   pub to_potential :
-      p.target ≡ Potential →
-      view (over s (set s.potential p.place p.micro) s.potential_count s.outliers s.outlier_count) ≡ placed_by s p
+      (place : ℕ) → k.target ≡ Potential place →
+      view (over s (set s.potential place k.micro) s.potential_count s.outliers s.outlier_count) ≡ placed_by s k
   unfolding held_in
-  to_potential e =
+  to_potential place e =
       ap (taking (view s))
-      (laws.potential_absorbs (dim_of s) s.potential s.potential_count s.outliers s.outlier_count p.target p.place p.micro e)
+      (laws.potential_absorbs (dim_of s) s.potential s.potential_count s.outliers s.outlier_count place k.micro ∙ at_target (Potential place) e)
 
   pub to_outlier :
-      p.target ≡ Outlier →
-      view (over s s.potential s.potential_count (set s.outliers p.place p.micro) s.outlier_count) ≡ placed_by s p
+      (place : ℕ) → k.target ≡ Outlier place →
+      view (over s s.potential s.potential_count (set s.outliers place k.micro) s.outlier_count) ≡ placed_by s k
   unfolding held_in
-  to_outlier e =
+  to_outlier place e =
       ap (taking (view s))
-      (laws.outlier_absorbs (dim_of s) s.potential s.potential_count s.outliers s.outlier_count p.target p.place p.micro e)
+      (laws.outlier_absorbs (dim_of s) s.potential s.potential_count s.outliers s.outlier_count place k.micro ∙ at_target (Outlier place) e)
 
   pub to_promotion :
-      p.target ≡ Promotion →
-      (rest : Pool) →
-      held rest ≡ without p.place (take no s.outliers) →
-      rest.count ≡ length (held rest) →
-      view (over s (set s.potential np p.micro) (np + 1) rest.micros rest.count) ≡ placed_by s p
+      (place : ℕ) → k.target ≡ Promotion place → (front rest : List DenMicro) (count : ℕ) →
+      take count front ≡ without place (take no s.outliers) →
+      count ≡ length (take count front) →
+      view (over s (set s.potential np k.micro) (np + 1) (front ++ rest) count) ≡ placed_by s k
   unfolding held_in
-  to_promotion e rest el cl =
-      ap (taking (view s))
+  to_promotion place e front rest count el cl =
+      let low : count ≤ length front = omega (arith, cl, length-take count front) in
+      ap (λ (n : ℕ). view (over s (set s.potential n k.micro) (n + 1) (front ++ rest) count)) c.np_is
+      ∙ ap (taking (view s))
       (laws.promotes (dim_of s) s.potential s.potential_count s.outliers s.outlier_count c.potential_size c.outliers_size
-      np c.potential_held_lem no c.outliers_held_lem p.target p.place p.micro c.ready e rest el cl)
+      place k.micro (ready_for (Promotion place) e) (front ++ rest) count
+      (front_is count front rest low _ el ∙ ap (λ (n : ℕ). without place (take n s.outliers)) c.no_is) (front_length count front rest low)
+      ∙ at_target (Promotion place) e)
 
   pub to_newborn :
-      p.target ≡ Newborn →
-      view (over s s.potential s.potential_count (set s.outliers no p.micro) (no + 1)) ≡ placed_by s p
+      k.target ≡ Newborn →
+      view (over s s.potential s.potential_count (set s.outliers no k.micro) (no + 1)) ≡ placed_by s k
   unfolding held_in
   to_newborn e =
-      ap (taking (view s))
+      ap (λ (n : ℕ). view (over s s.potential s.potential_count (set s.outliers n k.micro) (n + 1))) c.no_is
+      ∙ ap (taking (view s))
       (laws.comes (dim_of s) s.potential s.potential_count s.outliers s.outlier_count c.potential_size c.outliers_size
-      np c.potential_held_lem no c.outliers_held_lem p.target p.place p.micro c.ready e)
+      k.micro (ready_for Newborn e) ∙ at_target Newborn e)

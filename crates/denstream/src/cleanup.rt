@@ -5,27 +5,25 @@ ghost use Rattle.model.specs.Denstream.{denstream};
 ghost use Rattle.denstream.specs.View.{view};
 
 use crate::stream::DenStream;
-use den_pool::Rank;
+use den_placement::{outliers_held, potential_held};
+use den_pool::{outlier_stays, potential_stays};
 
 impl DenStream {
     // Potential micro-clusters that faded below bm go, and outliers that weigh less than their age asks for.
-    pub(crate) fn pruned(mut self) -> Self
-        ensures { view result ≡ cleaned_of denstream (view self) }
+    pub(crate) fn prune(&mut self)
+        ensures { view self.new ≡ cleaned_of denstream (view self.old) }
     {
         let t = self.t;
         let params = self.params;
-        let np = den_placement::potential_held(self.potential_count);
-        let no = den_placement::outliers_held(self.potential_count, self.outlier_count);
-        let potential = self.potential;
-        let outliers = self.outliers;
-        let p = den_pool::pruned(Rank::Potential, potential, np, params, t);
-        let o = den_pool::pruned(Rank::Outlier, outliers, no, params, t);
-        let potential_left = p.micros;
-        let outliers_left = o.micros;
-        self.potential = potential_left;
-        self.potential_count = p.count;
-        self.outliers = outliers_left;
-        self.outlier_count = o.count;
-        self
+        let np = potential_held(self.potential_count);
+        let no = outliers_held(self.potential_count, self.outlier_count);
+        self.potential_count = lists::retain(
+            &mut self.potential[..np],
+            |m| potential_stays(m, &params, t),
+        );
+        self.outlier_count = lists::retain(
+            &mut self.outliers[..no],
+            |m| outlier_stays(m, &params, t),
+        );
     }
 }

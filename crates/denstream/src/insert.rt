@@ -1,15 +1,14 @@
 // A point is taken.
-ghost use Rattle.std.specs.Prelude.{◌≡◌, ◌≢◌, true, false, cond, length};
+ghost use Rattle.std.specs.Prelude.{◌≡◌, ◌≢◌, length};
 ghost use Rattle.model.specs.Answers.{insertion_number};
 ghost use Rattle.model.specs.Numbers.{insertion_no, insertion_said};
-ghost use Rattle.model.specs.Denstream.{tick_of, has_place, insert_of};
-ghost use Rattle.den_placement.specs.Placing.{takes, Ready};
+ghost use Rattle.model.specs.Denstream.{has_place, insert_of};
+ghost use Rattle.den_placement.specs.Placing.{Ready};
 ghost use Rattle.denstream.specs.View.{view, inserted_told};
 ghost use Rattle.denstream.specs.Inside.Placed.{placed_by};
 
 use crate::stream::DenStream;
-use den_placement::{Placement, Target};
-use feature::MAX_DIM;
+use den_placement::{Placed, Target, outliers_held, potential_held};
 use model::InsertError;
 
 // The answer, and the stream given back.
@@ -20,77 +19,61 @@ pub struct Inserted {
 }
 
 impl DenStream {
-    // Unless the point is refused, its micro-cluster goes to its target, the labels are cleared and the clock ticks.
-    // A refused stream goes this way too, which saves a copy of the stream.
-    fn taken(mut self, done: bool, p: Placement) -> Self
-        requires ready { Ready p.target p.place (view self).held }
-        requires placed { done ≡ true → takes p.target ≡ true }
-        ensures result_value { view result ≡ cond done (tick_of (placed_by self p) p.near) (view self) }
-        ensures kept { done ≡ false → result ≡ self }
+    // The micro-cluster with the point goes to its target, and the labels are cleared.
+    fn put(&mut self, placed: Placed)
+        requires { Ready placed.target (view self.old).held }
+        ensures { view self.new ≡ placed_by self.old placed }
     {
-        if !done {
-            return self;
-        }
-        let np = den_placement::potential_held(self.potential_count);
-        let no = den_placement::outliers_held(self.potential_count, self.outlier_count);
-        let place = p.place;
-        let m = p.micro;
-        let target = p.target;
-        match target {
-            Target::Potential => {
-                let at = place;
-                self.potential[at] = m;
-            }
-            Target::Promotion => {
-                let outliers = self.outliers;
-                let rest = den_pool::without(outliers, no, place);
-                let left = rest.micros;
-                self.outliers = left;
-                self.outlier_count = rest.count;
-                self.potential[np] = m;
+        let np = potential_held(self.potential_count);
+        let no = outliers_held(self.potential_count, self.outlier_count);
+        match placed.target {
+            Target::Potential(place) => self.potential[place] = placed.micro,
+            Target::Promotion(place) => {
+                self.outlier_count = den_pool::without(&mut self.outliers[..no], place);
+                self.potential[np] = placed.micro;
                 self.potential_count = np + 1;
             }
-            Target::Outlier => {
-                self.outliers[place] = m;
-            }
+            Target::Outlier(place) => self.outliers[place] = placed.micro,
             Target::Newborn => {
-                self.outliers[no] = m;
+                self.outliers[no] = placed.micro;
                 self.outlier_count = no + 1;
-            }
-            Target::Nowhere => {
-                return self;
             }
         }
         self.label_count = 0;
-        let near = p.near;
-        self.tick(near)
     }
 
-    // The questions in order; a point that none refuses is taken, and a refused stream is the one that came.
-    pub fn try_insert(self, x: &[f64]) -> Inserted
+    // The questions in order; a point that none refuses is put at its place, and the clock ticks.
+    fn insert(&mut self, x: &[f64]) -> Result<(), InsertError>
+        ensures told { inserted_told (record { answer = result; stream = self.new }) ≡ insert_of (view self.old) x.now }
+        ensures kept { insertion_number result ≢ 0 → self.new ≡ self.old }
+    {
+        let placement = den_placement::place(
+            self.potential(),
+            self.outliers(),
+            &self.params,
+            self.t,
+            x,
+        );
+        let has_place = placement.placed.is_some();
+        model::insertion_asked(self.dim(), x.len(), self.t, has_place)?;
+        if let Some(placed) = placement.placed {
+            self.put(placed);
+        }
+        self.advance(placement.near);
+        Ok(())
+    }
+
+    // The stream after the point; a refused stream is the one that came.
+    pub fn try_insert(mut self, x: &[f64]) -> Inserted
         ensures result_value { inserted_told result ≡ insert_of (view self) x.now }
         ensures kept { insertion_number result.answer ≢ 0 → result.stream ≡ self }
         ensures said { insertion_said result.answer
             ≡ insertion_no (view self).params.settings.dim (length x.now) (view self).t (has_place (view self) x.now) }
     {
-        let params = self.params;
-        let dim = lists::cut(params.settings.dim, MAX_DIM);
-        let point = model::padded(x);
-        let potential = self.potential;
-        let outliers = self.outliers;
-        let p = den_placement::place(
-            potential,
-            self.potential_count,
-            outliers,
-            self.outlier_count,
-            params,
-            self.t,
-            point,
-        );
-        let target = p.target;
-        let place = target.takes();
-        let answer = model::insertion_asked(dim, x.len(), self.t, place);
-        let stream = self.taken(answer.is_ok(), p);
-        Inserted { answer, stream }
+        let answer = self.insert(x);
+        Inserted {
+            answer,
+            stream: self,
+        }
     }
 }

@@ -1,6 +1,7 @@
 // What a DenStream keeps, and what it says of itself; the crate den_readout has the rest.
-ghost use Rattle.std.specs.Prelude.{◌≡◌, length};
+ghost use Rattle.std.specs.Prelude.{◌≡◌, length, take};
 ghost use Rattle.drift.specs.Monitor.{report_of};
+ghost use Rattle.den_placement.specs.Pools.{potential_held, outliers_held};
 ghost use Rattle.denstream.specs.View.{view};
 
 use drift::{DriftMonitor, DriftReport};
@@ -23,24 +24,37 @@ pub struct DenStream {
 
 impl DenStream {
     // The coordinates of a point.
-    pub fn dim(self) -> usize
-        ensures { result ≡ (view self).params.settings.dim }
+    pub fn dim(&self) -> usize
+        ensures { result ≡ (view self.now).params.settings.dim }
     {
-        lists::cut(self.params.settings.dim, MAX_DIM)
+        self.params.settings.dim.min(MAX_DIM)
+    }
+
+    // The potential micro-clusters held.
+    pub fn potential(&self) -> &[DenMicro]
+        ensures { result.now ≡ take (potential_held self.now.potential_count) self.now.potential }
+    {
+        &self.potential[..den_placement::potential_held(self.potential_count)]
+    }
+
+    // The outliers held.
+    pub(crate) fn outliers(&self) -> &[DenMicro]
+        ensures { result.now ≡ take (outliers_held self.now.potential_count self.now.outlier_count) self.now.outliers }
+    {
+        &self.outliers[..den_placement::outliers_held(self.potential_count, self.outlier_count)]
     }
 
     // How many potential micro-clusters are held.
-    pub fn potential_count(self) -> usize
-        ensures { result ≡ length (view self).held.potential }
+    pub fn potential_count(&self) -> usize
+        ensures { result ≡ length (view self.now).held.potential }
     {
-        den_placement::potential_held(self.potential_count)
+        self.potential().len()
     }
 
     // The drift monitor's report.
-    pub fn drift(self) -> DriftReport
-        ensures { result ≡ report_of (view self).drift }
+    pub fn drift(&self) -> DriftReport
+        ensures { result ≡ report_of (view self.now).drift }
     {
-        let monitor = self.drift;
-        monitor.report()
+        self.drift.report()
     }
 }

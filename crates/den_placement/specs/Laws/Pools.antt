@@ -60,26 +60,25 @@ module _ (d : ℕ) (potential : List DenMicro) (potential_count : ℕ) (outliers
     pub outliers_length : length s.outliers ≡ no
     outliers_length = held_length d no outliers (omega arith)
 
-    module _ (place : ℕ) (m : DenMicro) where
-      -- an outlier that grew moves to the end of the potential ones; left is what the others leave of their array
-      pub promotes :
-          Ready (Promotion place) s → (left : List DenMicro) (count : ℕ) → take count left ≡ without place (take no outliers) → count ≡ length (take count left) →
-          pools_of d (set potential np m) (np + 1) left count ≡ pooled_at (Promotion place) (micro_in d m) s
-      promotes r left count el cl =
-          let q : place < no = omega (arith, r, outliers_length) in
-          let o_size : length (take no outliers) ≡ no = length-take-le no outliers (omega arith) in
-          let a : length (without place (take no outliers)) + 1 ≡ length (take no outliers) = without_length place (take no outliers) (omega (arith, o_size)) in
-          let b : count ≡ length (without place (take no outliers)) = cl ∙ ap length el in
-          ap₂ pooled
-          (seen_more d np (potential_held (np + 1)) potential m (omega arith) (omega arith))
-          (ap (λ (n : ℕ). seen d n left) (let c : outliers_held (np + 1) count ≡ count = omega (arith, o_size) in c)
-          ∙ ap (map (micro_in d)) el ∙ map_without (micro_in d) place (take no outliers))
+    -- an outlier that grew moves to the end of the potential ones; left is what the others leave of their array
+    pub promotes :
+        (place : ℕ) (m : DenMicro) → Ready (Promotion place) s → (left : List DenMicro) (count : ℕ) → take count left ≡ without place (take no outliers) → count ≡ length (take count left) →
+        pools_of d (set potential np m) (np + 1) left count ≡ pooled_at (Promotion place) (micro_in d m) s
+    promotes place m r left count el cl =
+        let q : place < no = omega (arith, r, outliers_length) in
+        let o_size : length (take no outliers) ≡ no = length-take-le no outliers (omega arith) in
+        let a : length (without place (take no outliers)) + 1 ≡ length (take no outliers) = without_length place (take no outliers) (omega (arith, o_size)) in
+        let b : count ≡ length (without place (take no outliers)) = cl ∙ ap length el in
+        ap₂ pooled
+        (seen_more d np (potential_held (np + 1)) potential m (omega arith) (omega arith))
+        (ap (λ (n : ℕ). seen d n left) (let c : outliers_held (np + 1) count ≡ count = omega (arith, o_size) in c)
+        ∙ ap (map (micro_in d)) el ∙ map_without (micro_in d) place (take no outliers))
 
-      -- a new outlier at the end
-      pub comes : Ready Newborn s → pools_of d potential potential_count (set outliers no m) (no + 1) ≡ pooled_at Newborn (micro_in d m) s
-      comes r =
-          let q : np + no < micros_most = omega (arith, r, potential_length, outliers_length) in
-          ap (pooled s.potential) (seen_more d no (outliers_held potential_count (no + 1)) outliers m (omega arith) (omega arith))
+    -- a new outlier at the end
+    pub comes : (m : DenMicro) → Ready Newborn s → pools_of d potential potential_count (set outliers no m) (no + 1) ≡ pooled_at Newborn (micro_in d m) s
+    comes m r =
+        let q : np + no < micros_most = omega (arith, r, potential_length, outliers_length) in
+        ap (pooled s.potential) (seen_more d no (outliers_held potential_count (no + 1)) outliers m (omega arith) (omega arith))
 
     -- a pruning of both pools; kept and left are what it leaves of their arrays
     pub prunes :

@@ -2,13 +2,13 @@
 use Rattle.model.specs.Stream.{taking}
 use Rattle.model.specs.DenState.{Holdings, State}
 use Rattle.den_pool.specs.Held.{micro_in}
-use Rattle.den_placement.specs.declared.choice.Placement.{Placement}
+use Rattle.den_placement.specs.declared.choice.Placed.{Placed}
 use Rattle.den_placement.specs.Placing.{pooled_at}
 use Rattle.denstream.specs.declared.stream.DenStream.{DenStream}
 use Rattle.denstream.specs.View.{view, dim_of}
 
-abbrev pub held_by : DenStream → Placement → Holdings
-held_by s p = pooled_at p.target p.place (micro_in (dim_of s) p.micro) (view s).held
+abbrev pub held_by : DenStream → Placed → Holdings
+held_by s k = pooled_at k.target (micro_in (dim_of s) k.micro) (view s).held
 
-abbrev pub placed_by : DenStream → Placement → State
-placed_by s p = taking (view s) (held_by s p)
+abbrev pub placed_by : DenStream → Placed → State
+placed_by s k = taking (view s) (held_by s k)

@@ -1,26 +1,18 @@
 -- `asked` meets its contract. Assumes nothing.
-use mathlib.Core.Path.{refl, sym, ◌∙◌}
+use mathlib.Core.Path.{◌≡◌, refl, ap, ◌∙◌}
 use mathlib.Core.Bool.{true, false}
-use Rattle.denstream.proofs.Openings.{asked_of}
+use borrow.Author.Rules.{rules}
+use Rattle.model.specs.Answers.{is_open}
+use Rattle.denstream.proofs.Openings.{open_ok, asked_of}
 use Rattle.denstream.proofs.opening.asked.Goals as goal
 
-pub returns-then-not-is_open : goal.returns-then-not-is_open
-returns-then-not-is_open c =
-    let p = c.args.settings in
-    let five = c.asked-first in
-    let refused = sym c.is_open.ensures ∙ c.if-not-is_open.true in
-    asked_of p five.result false _ five.ensures refused refl
+pub returns-in_err-asked : goal.returns-in_err-asked
+returns-in_err-asked c =
+    let same : c.from_residual.result ≡ c.asked.result = search rules in
+    same ∙ asked_of c.args.settings c.asked.result false _ c.asked.ensures (open_ok c.asked.result ∙ search rules) refl
 
 pub returns-then-settings : goal.returns-then-settings
-returns-then-settings c =
-    let p = c.args.settings in
-    let five = c.asked-first in
-    let asks = sym c.is_open.ensures ∙ c.if-not-is_open.false in
-    asked_of p five.result true true five.ensures asks c.if-settings.true
+returns-then-settings c = asked_of c.args.settings c.asked.result true true c.asked.ensures (ap is_open c.in_ok-asked.was) c.if-settings.true
 
 pub returns : goal.returns
-returns c =
-    let p = c.args.settings in
-    let five = c.asked-first in
-    let asks = sym c.is_open.ensures ∙ c.if-not-is_open.false in
-    asked_of p five.result true false five.ensures asks c.if-settings.false
+returns c = asked_of c.args.settings c.asked.result true false c.asked.ensures (ap is_open c.in_ok-asked.was) c.if-settings.false

@@ -2,21 +2,19 @@
 use mathlib.Core.Path.{sym, ◌∙◌}
 use mathlib.Core.Bool.{true, false}
 use Rattle.denstream.specs.View.{view}
-use Rattle.denstream.proofs.Openings.{opened}
+use Rattle.denstream.proofs.Openings.{open_ok, opened}
 use Rattle.denstream.proofs.stream.DenStream.new.Goals as goal
 
-pub returns-then-is_open : goal.returns-then-is_open
-returns-then-is_open c =
-    let p = c.args.settings in
+pub returns-then-is_ok : goal.returns-then-is_ok
+returns-then-is_ok c =
     let answer = c.asked-answer in
-    let opens = sym c.is_open.ensures ∙ c.if-is_open.true in
-    let all = opened p answer.result true (view c.fresh-stream.result) answer.ensures opens c.fresh-stream.ensures in
+    let opens = open_ok answer.result ∙ sym c.is_ok.ensures.value ∙ c.if-is_ok.true in
+    let all = opened c.args.settings answer.result true (view c.fresh-stream.result) answer.ensures opens c.fresh-stream.ensures in
     record { result_value = all.0; said = all.1 }
 
 pub returns : goal.returns
 returns c =
-    let p = c.args.settings in
     let answer = c.asked-answer in
-    let stays = sym c.is_open.ensures ∙ c.if-is_open.false in
-    let all = opened p answer.result false (view c.fresh-stream-2.result) answer.ensures stays c.fresh-stream-2.ensures in
+    let stays = open_ok answer.result ∙ sym c.is_ok.ensures.value ∙ c.if-is_ok.false in
+    let all = opened c.args.settings answer.result false (view c.fresh-stream-2.result) answer.ensures stays c.fresh-stream-2.ensures in
     record { result_value = all.0; said = all.1 }
