@@ -7,3 +7,4 @@ pub mod Tp
 pub mod Insert
 pub mod Open
 pub mod Examples
+pub mod Numbers

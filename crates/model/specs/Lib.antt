@@ -15,6 +15,7 @@ pub mod Numbers
 pub mod Outcome
 pub mod Run
 pub mod Stream
+pub mod Told
 pub mod DbState
 pub mod DbInsert
 pub mod DbCluster

@@ -13,6 +13,7 @@ mod periods;
 mod point;
 mod questions;
 mod settings;
+mod stream;
 
 pub use answers::{InsertError, NotLive, OpenError, ShapeError, TooShort, number_of};
 pub use body::Body;
@@ -26,3 +27,4 @@ pub use periods::{floor, t_gap, tp};
 pub use point::padded;
 pub use questions::{asked, dim_in_range, insertion_asked};
 pub use settings::{DbSettings, DenSettings};
+pub use stream::{Clustered, Inserted, Opened, Stream};
