@@ -4,6 +4,7 @@
 mod cleanup;
 mod cluster;
 mod insert;
+mod kind;
 mod opening;
 mod stream;
 mod tick;

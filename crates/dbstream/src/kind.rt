@@ -1,0 +1,57 @@
+// DBSTREAM as a stream of its kind: its own calls under the names of the trait.
+ghost use Rattle.model.specs.DbState.{Params, Holdings};
+ghost use Rattle.model.specs.Dbstream.{dbstream};
+ghost use Rattle.dbstream.specs.View as own;
+
+use crate::stream::DbStream;
+use drift::DriftReport;
+use model::{Clustered, DbSettings, Inserted, MICROS, Opened, Stream};
+
+impl Stream for DbStream {
+    type Settings = DbSettings;
+
+    ghost Params = { Params };
+
+    ghost Holdings = { Holdings };
+
+    ghost kind = { dbstream };
+
+    ghost view = { own.view };
+
+    fn open(settings: DbSettings) -> Opened<DbStream> {
+        let opened = DbStream::new(settings);
+        Opened {
+            answer: opened.answer,
+            stream: opened.stream,
+        }
+    }
+
+    fn try_insert(self, x: &[f64]) -> Inserted<DbStream> {
+        let inserted = DbStream::try_insert(self, x);
+        Inserted {
+            answer: inserted.answer,
+            stream: inserted.stream,
+        }
+    }
+
+    fn cluster(self) -> Clustered<DbStream> {
+        let clustered = DbStream::cluster(self);
+        Clustered {
+            finds: clustered.finds,
+            steps: clustered.steps,
+            stream: clustered.stream,
+        }
+    }
+
+    fn micros_held(&self) -> usize {
+        self.micro_count()
+    }
+
+    fn labels_told(&self) -> &[i64] {
+        &self.labels[..self.label_count.min(MICROS)]
+    }
+
+    fn drift_report(&self) -> DriftReport {
+        self.drift.report()
+    }
+}

@@ -1,0 +1,57 @@
+// DenStream as a stream of its kind: its own calls under the names of the trait.
+ghost use Rattle.model.specs.DenState.{Params, Holdings};
+ghost use Rattle.model.specs.Denstream.{denstream};
+ghost use Rattle.denstream.specs.View as own;
+
+use crate::stream::DenStream;
+use drift::DriftReport;
+use model::{Clustered, DenSettings, Inserted, MICROS, Opened, Stream};
+
+impl Stream for DenStream {
+    type Settings = DenSettings;
+
+    ghost Params = { Params };
+
+    ghost Holdings = { Holdings };
+
+    ghost kind = { denstream };
+
+    ghost view = { own.view };
+
+    fn open(settings: DenSettings) -> Opened<DenStream> {
+        let opened = DenStream::new(settings);
+        Opened {
+            answer: opened.answer,
+            stream: opened.stream,
+        }
+    }
+
+    fn try_insert(self, x: &[f64]) -> Inserted<DenStream> {
+        let inserted = DenStream::try_insert(self, x);
+        Inserted {
+            answer: inserted.answer,
+            stream: inserted.stream,
+        }
+    }
+
+    fn cluster(self) -> Clustered<DenStream> {
+        let clustered = DenStream::cluster(self);
+        Clustered {
+            finds: clustered.finds,
+            steps: clustered.steps,
+            stream: clustered.stream,
+        }
+    }
+
+    fn micros_held(&self) -> usize {
+        self.potential_count()
+    }
+
+    fn labels_told(&self) -> &[i64] {
+        &self.labels[..self.label_count.min(MICROS)]
+    }
+
+    fn drift_report(&self) -> DriftReport {
+        self.drift.report()
+    }
+}
