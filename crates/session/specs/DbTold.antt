@@ -1,15 +1,9 @@
--- What a whole run of a DBSTREAM tells: its number, the numbers of the inserts, and the stream. Definitions only.
-use Rattle.std.specs.Prelude.{ℕ, List, Float}
+-- Demand 3 of a whole run of a DBSTREAM in code. Definition only.
+use Rattle.std.specs.Prelude.{List, Float}
 use Rattle.model.specs.DbState.{Settings, State}
 use Rattle.model.specs.Dbstream.{dbstream}
 use Rattle.claims.specs.DbClaims.{LabelsTellFamilies, OneStream}
-use Rattle.dbstream.specs.View.{view}
-use Rattle.session.specs.Whole.{Session}
 use Rattle.session.specs.Runs as runs
-use Rattle.session.specs.declared.db.DbSession.{DbSession}
-
-abbrev pub told : DbSession → List ℕ → Session State
-told o numbers = record { number = o.number; numbers = numbers; stream = view o.stream }
 
 -- demand 3 of a stream that was not refused
 abbrev pub RunTold : Settings → List (List Float) → State → Type 0

@@ -1,73 +1,26 @@
 // A whole run of a DBSTREAM.
-ghost use Rattle.std.specs.Prelude.{◌≡◌, ◌++◌, map, ◌≤◌, length, drop};
-ghost use Rattle.model.specs.Answers.{insertion_number};
-ghost use Rattle.model.specs.Run.{run_of, answers_of};
+ghost use Rattle.std.specs.Prelude.{◌≡◌, Ok};
 ghost use Rattle.model.specs.Dbstream.{open_of, insert_of, cluster_of};
 ghost use Rattle.dbstream.specs.View.{view};
 ghost use Rattle.session.specs.Points.{points_of};
 ghost use Rattle.session.specs.Whole.{session_of};
-ghost use Rattle.session.specs.DbTold.{RunTold, told};
+ghost use Rattle.session.specs.Told.{told};
+ghost use Rattle.session.specs.DbTold.{RunTold};
 
-use crate::points::end_of;
+use crate::whole::{Session, whole_run};
 use dbstream::DbStream;
 use model::DbSettings;
 
-// 0, or the number with which the run was refused, and the stream.
-#[derive(Clone, Copy)]
-pub struct DbSession {
-    pub number: u64,
-    pub stream: DbStream,
-}
-
-// Every insert in order; each gets the stream that the one before it gave back, refused or not.
-fn inserts(stream: DbStream, values: &[f64], lengths: &[usize], numbers: &mut [u64]) -> DbStream
-    requires { length lengths.now ≤ length numbers.old }
-    ensures result_value { view result ≡ run_of insert_of (view stream) (points_of lengths.now values.now) }
-    ensures numbers_after { numbers.new
-        ≡ map insertion_number (answers_of insert_of (view stream) (points_of lengths.now values.now))
-        ++ drop (length lengths.now) numbers.old }
-{
-    let mut s = stream;
-    let mut at: usize = 0;
-    let mut i: usize = 0;
-    while i < lengths.len() {
-        let end = end_of(at, lengths[i], values.len());
-        let r = s.try_insert(&values[at..end]);
-        s = r.stream;
-        let answer = r.answer;
-        numbers[i] = model::number_of(answer);
-        at = end;
-        i += 1;
-    }
-    s
-}
-
-// Opens, inserts and clusters; `numbers` gets 0 or the refusal's number of each insert.
+// The whole run of DBSTREAM's kind, with what demand 3 says of it.
 pub fn dbstream_session(
     settings: DbSettings,
     values: &[f64],
     lengths: &[usize],
     numbers: &mut [u64],
-) -> DbSession
-    ensures numbers_after { told result numbers.new
+) -> Session<DbStream>
+    ensures numbers_after { told view result numbers.new
         ≡ session_of insert_of cluster_of (open_of settings) (points_of lengths.now values.now) numbers.old }
-    ensures demand { result.number ≡ 0 → RunTold settings (points_of lengths.now values.now) (view result.stream) }
+    ensures demand { result.answer ≡ Ok tt → RunTold settings (points_of lengths.now values.now) (view result.stream) }
 {
-    let opened = DbStream::new(settings);
-    let stream = opened.stream;
-    let answer = opened.answer;
-    let number = model::number_of(answer);
-    if number != 0 {
-        return DbSession { number, stream };
-    }
-    if numbers.len() < lengths.len() {
-        return DbSession { number: 10, stream };
-    }
-    let run = inserts(stream, values, lengths, numbers);
-    let told = run.cluster();
-    let clustered = told.stream;
-    DbSession {
-        number: 0,
-        stream: clustered,
-    }
+    whole_run(settings, values, lengths, numbers)
 }

@@ -4,6 +4,10 @@
 mod db;
 mod den;
 mod points;
+mod refusal;
+mod whole;
 
-pub use db::{DbSession, dbstream_session};
-pub use den::{DenSession, denstream_session};
+pub use db::dbstream_session;
+pub use den::denstream_session;
+pub use refusal::Refusal;
+pub use whole::{Session, whole_run};

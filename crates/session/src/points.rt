@@ -6,9 +6,5 @@ pub(crate) fn end_of(at: usize, length: usize, values: usize) -> usize
     requires { at ≤ values }
     ensures { result ≡ min (at + length) values }
 {
-    if length < values - at {
-        at + length
-    } else {
-        values
-    }
+    at + length.min(values - at)
 }

@@ -9,17 +9,12 @@ use Rattle.session.specs.Runs as runs
 use Rattle.session.specs.Laws.Cases.{run_by}
 
 module _ {S P H : Type 0} (k : Kind S P H) (Labels : State P H → Type 0) (One : S → List (List Float) → Type 0) where
-  -- both clauses of a session's contract, from the first
-  pub both_told :
+  pub run_told :
       ((p : S) → Opens k p → (xs : List (List Float)) → One p xs × Labels (cluster_of k (after k (has_place k) p xs))) →
       (p : S) (lengths : List ℕ) (values : List Float) (lent : List ℕ) (o : Session (State P H)) →
       o ≡ session_of (insert_of k) (cluster_of k) (open_of k p) (points_of lengths values) lent →
-      (o ≡ session_of (insert_of k) (cluster_of k) (open_of k p) (points_of lengths values) lent)
-      × (o.number ≡ 0 → runs.RunTold k Labels One p (points_of lengths values) o.stream)
-  both_told demand p lengths values lent o e = (
-    e,
-    λ z.
-        let w = run_by (insert_of k) (cluster_of k) (asked k p) (fresh k p) (fresh k k.zeros) lengths values lent o e z in
-        let d = demand p w.0 (points_of lengths values) in
-        record { opens = w.0; labels = subst Labels (sym w.1) d.1; stream = w.1; one = d.0 },
-  )
+      o.number ≡ 0 → runs.RunTold k Labels One p (points_of lengths values) o.stream
+  run_told demand p lengths values lent o e z =
+      let w = run_by (insert_of k) (cluster_of k) (asked k p) (fresh k p) (fresh k k.zeros) lengths values lent o e z in
+      let d = demand p w.0 (points_of lengths values) in
+      record { opens = w.0; labels = subst Labels (sym w.1) d.1; stream = w.1; one = d.0 }

@@ -1,14 +1,23 @@
--- A whole run by its three answers, of any stream. Assumes nothing.
-use Rattle.std.specs.Prelude.{ℕ, suc, ◌≤◌, ◌<◌, ◌≡◌, refl, Bool, true, false, cond, List, [], ◌∷◌, ◌++◌, map, eqb, leb, Float, length, drop, Ok, Err}
-use Rattle.std.proofs.Common.{arith, sym, ap, ◌∙◌, true≢false, eq-eqb, ne_eqb, eqb-true, le-leb}
-use Rattle.std.proofs.lemmas.Bool.{lt-leb}
+-- A whole run by its answer, of any stream. Assumes nothing.
+use Rattle.std.specs.Prelude.{ℕ, suc, ◌≡◌, refl, Bool, true, false, cond, List, [], ◌∷◌, ◌++◌, map, eqb, leb, Float, length, drop, Ok, Err}
+use Rattle.std.proofs.Common.{arith, sym, ap, ◌∙◌, true≢false, eq-eqb, eqb-true}
 use Rattle.lists.specs.Laws.Maps.{map_length}
-use Rattle.model.specs.Answers.{opening_number, insertion_number, Opening}
+use Rattle.model.specs.Answers.{open_error_number, opening_number, insertion_number, Opening}
 use Rattle.model.specs.Outcome.{Opened, Outcome, opened}
 use Rattle.model.specs.Run.{run_of, answers_of}
 use Rattle.session.specs.Points.{points_of}
 use Rattle.session.specs.Whole.{Session, session_of}
+use Rattle.session.specs.Refused.{Run, refusal_number, run_asked}
+use Rattle.model.specs.declared.answers.OpenError.{OpenError}
 use Rattle.model.specs.declared.answers.OpenError.TheVariants.{Dim, Radius, Lambda, Share, Weight, BetaMu}
+
+error_number : (e : OpenError) → eqb (open_error_number e) 0 ≡ false
+error_number Dim = refl
+error_number Radius = refl
+error_number Lambda = refl
+error_number Share = refl
+error_number Weight = refl
+error_number BetaMu = refl
 
 answers_length :
     {S : Type 0} (insert : S → List Float → Outcome S) (s : S) (points : List (List Float)) → length (answers_of insert s points) ≡ length points
@@ -44,9 +53,6 @@ module _
     unfolding session_of
     by_tests a b p q = rw (← p, ← q)
 
-    pub not_opened : (opening_number o.answer ≡ 0 → ⊥) → told (opening_number o.answer) lent o.stream ≡ session_of insert cluster o points lent
-    not_opened h = sym (by_tests false (leb (length due) (length lent)) (ne_eqb (opening_number o.answer) 0 h) refl)
-
     -- a run that is not refused was opened, and its stream is the run's, clustered
     pub not_refused :
         (session_of insert cluster o points lent).number ≡ 0 →
@@ -61,54 +67,35 @@ module _
             let e : opening_number o.answer ≡ 0 = sym (ap (λ (r : Session S). r.number) (by_tests false b p q)) ∙ z in
             absurd (true≢false (sym (eq-eqb (opening_number o.answer) 0 e) ∙ p))
 
-    module _ (opens : opening_number o.answer ≡ 0) where
-      is_zero : eqb (opening_number o.answer) 0 ≡ true
-      is_zero = eq-eqb (opening_number o.answer) 0 opens
+    -- what the code tells, by its answer
+    abbrev pub told_by : Run → Session S
+    told_by (Ok _) = told 0 (due ++ drop (length lengths) lent) (cluster (run_of insert o.stream points))
+    told_by (Err r) = told (refusal_number r) lent o.stream
 
-      pub too_short : length lent < length lengths → told 10 lent o.stream ≡ session_of insert cluster o points lent
-      too_short h = sym (by_tests true false is_zero (lt-leb (length due) (length lent) (omega (arith, due_length))))
+    by_answer : (a : Opening) (b : Bool) → o.answer ≡ a → leb (length lengths) (length lent) ≡ b →
+        session_of insert cluster o points lent ≡ told_by (run_asked a (length lengths) (length lent))
+    by_answer (Ok _) true p q =
+        rw (q, ← due_length) (by_tests true true (rw p refl) (rw due_length q))
+    by_answer (Ok _) false p q = rw q (by_tests true false (rw p refl) (rw due_length q))
+    by_answer (Err e) b p q =
+        by_tests false b (rw p (error_number e)) (rw due_length q) ∙ ap (λ (a : Opening). told (opening_number a) lent o.stream) p
 
-      pub ran :
-          (s : S) (numbers : List ℕ) →
-          length lengths ≤ length lent →
-          s ≡ run_of insert o.stream points →
-          numbers ≡ due ++ drop (length lengths) lent →
-          told 0 numbers (cluster s) ≡ session_of insert cluster o points lent
-      ran s numbers h es en =
-          rw (es, en, ← due_length) (sym (by_tests true true is_zero (le-leb (length due) (length lent) (omega (arith, due_length)))))
-
--- the three answers of the code, whose opening is the definition's
+-- the code's answer is the definition's, its opening too
 module _
     {S : Type 0} (insert : S → List Float → Outcome S) (cluster : S → S) (lengths : List ℕ) (values : List Float) (lent : List ℕ)
-    {o given : Opened S} (is : o ≡ given) (n : ℕ) (number : n ≡ opening_number o.answer)
+    {o given : Opened S} (is : o ≡ given)
   where
-    abbrev Told : Session S → Type 0
-    Told r = r ≡ session_of insert cluster given (points_of lengths values) lent
-
-    abbrev answer : ℕ → List ℕ → S → Session S
-    answer number numbers stream = record { number = number; numbers = numbers; stream = stream }
-
-    pub opening_refused : (n ≡ 0 → ⊥) → Told (answer n lent o.stream)
-    opening_refused h = rw (number, ← is) (not_opened insert cluster o lengths values lent (λ e. h (number ∙ e)))
-
-    module _ (opens : n ≡ 0) where
-      pub slice_short : length lent < length lengths → Told (answer 10 lent o.stream)
-      slice_short h = rw (← is) (too_short insert cluster o lengths values lent (sym number ∙ opens) h)
-
-      pub run_told :
-          (s t : S) (numbers : List ℕ) → length lengths ≤ length lent →
-          (s ≡ run_of insert o.stream (points_of lengths values)) × (numbers ≡ due insert cluster o lengths values lent ++ drop (length lengths) lent) →
-          t ≡ cluster s → Told (answer 0 numbers t)
-      run_told s t numbers h e c = rw (c, ← is) (ran insert cluster o lengths values lent (sym number ∙ opens) s numbers h e.0 e.1)
+    pub answered :
+        (r : Run) → r ≡ run_asked o.answer (length lengths) (length lent) →
+        told_by insert cluster o lengths values lent r ≡ session_of insert cluster given (points_of lengths values) lent
+    answered r e =
+        ap (told_by insert cluster o lengths values lent) e
+        ∙ sym (by_answer insert cluster o lengths values lent o.answer (leb (length lengths) (length lent)) refl refl)
+        ∙ ap (λ (q : Opened S). session_of insert cluster q (points_of lengths values) lent) is
 
 is_open : (a : Opening) → opening_number a ≡ 0 → a ≡ Ok tt
 is_open (Ok _) e = refl
-is_open (Err Dim) e = absurd (omega arith)
-is_open (Err Radius) e = absurd (omega arith)
-is_open (Err Lambda) e = absurd (omega arith)
-is_open (Err Share) e = absurd (omega arith)
-is_open (Err Weight) e = absurd (omega arith)
-is_open (Err BetaMu) e = absurd (omega arith)
+is_open (Err r) e = absurd (true≢false (sym (eq-eqb (open_error_number r) 0 e) ∙ error_number r))
 
 -- so it is the run from the fresh stream
 pub run_by :
