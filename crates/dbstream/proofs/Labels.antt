@@ -1,11 +1,16 @@
 -- The labels of the arrays, seen through the view. Assumes nothing.
-use Prim.Native.Nat.{ℕ}
+use Prim.Native.Nat.{ℕ, min}
+use native.Mathlib.Omega.{arith}
 use mathlib.Core.Path.{◌≡◌, sym, ap, ap₂, ◌∙◌}
 use mathlib.Core.List.{List, map, map-map}
 use mathlib.Core.Bool.{Bool}
 use lib.IntN.{ℤ}
 use lib.Ieee.{Float}
-use lib.ListN.{take}
+use lib.ListN.{length, take, length-take}
+use Rattle.std.proofs.lemmas.List.{take_all}
+use Rattle.lists.specs.Laws.Rest.{cut_take}
+use Rattle.model.specs.Limits.{micros_most, links_most}
+use Rattle.model.specs.declared.micro.DbMicro.{DbMicro}
 use Rattle.float.specs.Rounded.{◌⊗◌}
 use Rattle.union_find.specs.declared.forest.Work.{Work}
 use Rattle.union_find.specs.Steps.{find_steps, work_by}
@@ -21,42 +26,57 @@ use Rattle.db_joins.specs.Laws.Joined.{joined_view}
 use Rattle.dbstream.specs.declared.stream.DbStream.{DbStream}
 use Rattle.dbstream.specs.View.{view, dim_of}
 
--- mask says which of the held ones are strong, ids names them
+-- n micro-clusters and k links are held, and mask says which of them are strong
 module _
-    (s : DbStream)
-    (mask : List Bool)
-    (emask : take s.count mask ≡ map (reaches s.params.settings.lambda s.t s.params.settings.min_weight) (take s.count s.micros))
-    (ids : List MicroId) (eids : take s.count ids ≡ map id_of (take s.count s.micros)) where
+    (s : DbStream) (n k : ℕ) (en : n ≡ min s.count micros_most) (ek : k ≡ min s.link_count links_most) (lm : length s.micros ≡ micros_most)
+    (ll : length s.links ≡ links_most) (mask : List Bool) (size : length mask ≡ micros_most)
+    (emask : take n mask ≡ map (reaches s.params.settings.lambda s.t s.params.settings.min_weight) (take n s.micros)) where
   abbrev dense : Float
   dense = s.params.settings.alpha ⊗ s.params.settings.min_weight
 
-  abbrev joined_in : List Bool → List MicroId → List (ℕ × ℕ)
-  joined_in bs is = joined_by is bs s.params.settings.lambda s.t dense (view s).held.links
+  abbrev held : List DbMicro
+  held = take n s.micros
 
-  abbrev held : List Bool
-  held = take s.count mask
+  -- what is lent to the labelling
+  abbrev known : List Bool
+  known = take (min (length held) micros_most) mask
 
-  abbrev named : List MicroId
-  named = take s.count ids
+  abbrev joined : List (ℕ × ℕ)
+  joined = joined_by (map id_of held) known s.params.settings.lambda s.t dense (take links_most (take k s.links))
 
-  strong_are : held ≡ strong_ones (view s)
-  strong_are = emask ∙ sym (map-map (is_strong (view s)) (cut_to (dim_of s)) (take s.count s.micros))
+  held_are : held ≡ take s.count s.micros
+  held_are = cut_take n s.count micros_most s.micros en lm
 
-  ids_are : named ≡ map id_of (view s).held.micros
-  ids_are = eids ∙ sym (map-map id_of (cut_to (dim_of s)) (take s.count s.micros))
+  links_are : take links_most (take k s.links) ≡ (view s).held.links
+  links_are = take_all links_most (take k s.links) (omega (arith, length-take k s.links)) ∙ cut_take k s.link_count links_most s.links ek ll
 
-  joins_are : joined_in held named ≡ joins_of (view s) (view s).held.links
-  joins_are = ap₂ joined_in strong_are ids_are ∙ joined_view (view s) (view s).held.links
+  known_first : known ≡ take n mask
+  known_first = ap (λ (m : ℕ). take m mask) (omega (arith, length-take n s.micros))
 
-  labels_are : labels_by held (joined_in held named) ≡ labels_of (view s)
+  known_size : length known ≡ n
+  known_size = ap length known_first ∙ omega (arith, length-take n mask)
+
+  strong_are : known ≡ strong_ones (view s)
+  strong_are =
+      known_first ∙ emask ∙ ap (map (reaches s.params.settings.lambda s.t s.params.settings.min_weight)) held_are
+      ∙ sym (map-map (is_strong (view s)) (cut_to (dim_of s)) (take s.count s.micros))
+
+  ids_are : map id_of held ≡ map id_of (view s).held.micros
+  ids_are = ap (map id_of) held_are ∙ sym (map-map id_of (cut_to (dim_of s)) (take s.count s.micros))
+
+  joins_are : joined ≡ joins_of (view s) (view s).held.links
+  joins_are =
+      ap (joined_by (map id_of held) known s.params.settings.lambda s.t dense) links_are
+      ∙ ap₂ (λ (is : List MicroId) (bs : List Bool). joined_by is bs s.params.settings.lambda s.t dense (view s).held.links) ids_are strong_are
+      ∙ joined_view (view s) (view s).held.links
+
+  labels_are : labels_by known joined ≡ labels_of (view s)
   unfolding labels_of
   labels_are = ap₂ labels_by strong_are joins_are
 
-  pub clustered :
-      (labels : List ℤ) → take s.count labels ≡ labels_by held (joined_in held named) →
-      labelled (view s) (take s.count labels) ≡ cluster_of (view s)
-  clustered labels e = ap (labelled (view s)) (e ∙ labels_are)
+  pub clustered : (labels : List ℤ) → take (length known) labels ≡ labels_by known joined → labelled (view s) (take n labels) ≡ cluster_of (view s)
+  clustered labels e = ap (labelled (view s)) (ap (λ (m : ℕ). take m labels) (sym known_size) ∙ e ∙ labels_are)
 
   -- the finds that were made are the stream's
-  pub worked : (w : Work) → w ≡ work_by (find_steps held (joined_in held named)) → (w.finds ≡ finds_of (view s)) × (w.steps ≡ steps_of (view s))
-  worked w e = let q = e ∙ ap work_by (ap₂ find_steps strong_are joins_are) in (ap (λ (v : Work). v.finds) q, ap (λ (v : Work). v.steps) q)
+  pub worked : (w : Work) → w ≡ work_by (find_steps known joined) → w ≡ record { finds = finds_of (view s); steps = steps_of (view s) }
+  worked w e = e ∙ ap work_by (ap₂ find_steps strong_are joins_are)

@@ -4,6 +4,9 @@ ghost use Rattle.model.specs.Dbstream.{cluster_of, finds_of, steps_of};
 ghost use Rattle.dbstream.specs.View.{view};
 
 use crate::stream::DbStream;
+use labels::Labelled;
+use model::{LINKS, MICROS};
+use union_find::Work;
 
 // The finds that the labels took, the halving steps of all these, and the stream.
 #[derive(Clone, Copy)]
@@ -14,28 +17,43 @@ pub struct Clustered {
 }
 
 impl DbStream {
-    // Labels by first member; weights and links are taken as faded to the clock, and stay as stored.
+    // Labels by first member; weights and links are taken as faded to the clock, and stay as stored. Which finds that took.
+    fn relabel(&mut self) -> Work
+        ensures stream_after { view self.new ≡ cluster_of (view self.old) }
+        ensures work { result ≡ record { finds = finds_of (view self.old); steps = steps_of (view self.old) } }
+    {
+        let n = self.count.min(MICROS);
+        let settings = self.params.settings;
+        let strong = db_micro::strong_ones(
+            self.micros,
+            n,
+            settings.lambda,
+            self.t,
+            settings.min_weight,
+        );
+        let Labelled { labels, work } = db_joins::labels_of(
+            &self.links[..self.link_count.min(LINKS)],
+            &self.micros[..n],
+            &strong,
+            settings.lambda,
+            self.t,
+            settings.alpha * settings.min_weight,
+        );
+        self.labels = labels;
+        self.label_count = n;
+        work
+    }
+
+    // The labels of the micro-clusters, -1 for those that are not strong, and the work that finding them was.
     pub fn cluster(mut self) -> Clustered
         ensures stream_value { view result.stream ≡ cluster_of (view self) }
         ensures finds { result.finds ≡ finds_of (view self) }
         ensures steps { result.steps ≡ steps_of (view self) }
     {
-        let n = self.count;
-        let settings = self.params.settings;
-        let lambda = settings.lambda;
-        let t = self.t;
-        let micros = self.micros;
-        let strong = db_micro::strong_ones(micros, n, lambda, t, settings.min_weight);
-        let ids = db_micro::ids_of(micros, n);
-        let dense = settings.alpha * settings.min_weight;
-        let links = self.links;
-        let told = db_joins::labels_of(links, self.link_count, ids, strong, n, lambda, t, dense);
-        let labels = told.labels;
-        self.labels = labels;
-        self.label_count = n;
+        let work = self.relabel();
         Clustered {
-            finds: told.work.finds,
-            steps: told.work.steps,
+            finds: work.finds,
+            steps: work.steps,
             stream: self,
         }
     }
