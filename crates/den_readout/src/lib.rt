@@ -9,38 +9,30 @@ ghost use Rattle.readout.specs.Told.{labels_told, statistics_told};
 ghost use Rattle.denstream.specs.View.{view};
 
 use denstream::DenStream;
-use model::{ShapeError, TooShort};
+use model::{ShapeError, Stream, TooShort};
 
 // The label of each; what lies beyond in the slice stays.
-pub fn labels(stream: DenStream, out: &mut [i64]) -> Result<(), TooShort>
-    ensures { labels_told result out.new ≡ labels_read_of (view stream) out.old }
+pub fn labels(stream: &DenStream, out: &mut [i64]) -> Result<(), TooShort>
+    ensures { labels_told result out.new ≡ labels_read_of (view stream.now) out.old }
 {
-    let labels = stream.labels;
-    readout::read_labels(labels, stream.label_count, out)
+    readout::read_labels(stream.labels_told(), out)
 }
 
 // How many families these labels name.
-pub fn n_clusters(stream: DenStream) -> usize
-    ensures { result ≡ clusters_in (view stream).labels }
+pub fn n_clusters(stream: &DenStream) -> usize
+    ensures { result ≡ clusters_in (view stream.now).labels }
 {
-    let labels = stream.labels;
-    readout::n_clusters(labels, stream.label_count)
+    readout::n_clusters(stream.labels_told())
 }
 
 // The label of the nearest, if it is no farther than eps.
-pub fn try_predict(stream: DenStream, x: &[f64]) -> Result<i64, ShapeError>
-    ensures { prediction_said result ≡ predict_of (view stream) x.now }
+pub fn try_predict(stream: &DenStream, x: &[f64]) -> Result<i64, ShapeError>
+    ensures { prediction_said result ≡ predict_of (view stream.now) x.now }
 {
-    let params = stream.params;
-    let n = den_placement::potential_held(stream.potential_count);
-    let potential = stream.potential;
-    let bodies = den_pool::bodies(potential, n);
-    let labels = stream.labels;
+    let params = &stream.params;
     readout::predict(
-        bodies,
-        n,
-        labels,
-        stream.label_count,
+        stream.potential(),
+        stream.labels_told(),
         params.eps2,
         params.settings.dim,
         x,
@@ -49,21 +41,17 @@ pub fn try_predict(stream: DenStream, x: &[f64]) -> Result<i64, ShapeError>
 
 // The centres one after another, the faded weights and the radii, into lent slices.
 pub fn potential_stats(
-    stream: DenStream,
+    stream: &DenStream,
     centres: &mut [f64],
     weights: &mut [f64],
     radii: &mut [f64],
 ) -> Result<(), TooShort>
     ensures { statistics_told result centres.new weights.new radii.new
-        ≡ statistics_of (view stream) centres.old weights.old radii.old }
+        ≡ statistics_of (view stream.now) centres.old weights.old radii.old }
 {
-    let params = stream.params;
-    let n = den_placement::potential_held(stream.potential_count);
-    let potential = stream.potential;
-    let bodies = den_pool::bodies(potential, n);
+    let params = &stream.params;
     readout::statistics(
-        bodies,
-        n,
+        stream.potential(),
         params.settings.lambda,
         stream.t,
         params.settings.dim,

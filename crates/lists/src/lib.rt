@@ -1,7 +1,7 @@
-// Laws of loops over lists, for every element type, in specs/; and two functions over them: a count cut to its places, and a retain in place.
+// Laws of loops over lists, for every element type, in specs/; and functions over slices: a retain in place, and what a closure says of each element.
 #![tactic(auto)]
 
-ghost use Rattle.std.specs.Prelude.{◌≡◌, ◌≤◌, Bool, length, min, take};
+ghost use Rattle.std.specs.Prelude.{◌≡◌, ◌≤◌, Bool, length, map, min, take};
 ghost use Rattle.lists.specs.Retain.{AnswersBy, retain};
 
 // A count, cut to the places that there are.
@@ -26,4 +26,16 @@ pub fn retain<T: Copy, F: Fn(&T) -> bool>(items: &mut [T], keep: F) -> usize
         }
     }
     kept
+}
+
+// What `part` says of each of the items, as far as the array goes; the other places have `none`.
+pub fn each<T, U: Copy, const N: usize, F: Fn(&T) -> U>(items: &[T], none: U, part: F) -> [U; N]
+    requires { F.IsAlwaysCallable part }
+    ensures { (f : T → U) → AnswersBy F.Fn part f → take (length items.now) result ≡ map f (take N items.now) }
+{
+    let mut all = [none; N];
+    for i in 0..items.len().min(N) {
+        all[i] = part(&items[i]);
+    }
+    all
 }

@@ -8,7 +8,7 @@ ghost use Rattle.readout.specs.Seen.{seen};
 ghost use Rattle.readout.specs.Told.{statistics_told};
 
 use feature::MAX_DIM;
-use model::{Body, MICROS, TooShort};
+use model::{Body, MICROS, Micro, TooShort};
 
 // The means' first coordinates, one mean after another. The bodies come in their array, and not in a slice: how many
 // coordinates are due rests on each mean's having 15 places, which is known of an array's elements and not of a slice's.
@@ -44,7 +44,7 @@ fn write_figures(
 }
 
 // Of the first n bodies, of dim coordinates, at the clock t. Every slice is asked before one is written.
-pub fn statistics(
+fn statistics_of(
     bodies: [Body; MICROS],
     n: usize,
     lambda: f64,
@@ -71,4 +71,30 @@ pub fn statistics(
     write_centres(bodies, end, width, centres);
     write_figures(bodies, end, lambda, t, weights, radii);
     Ok(())
+}
+
+// Of the first 64 micro-clusters, of dim coordinates, at the clock t.
+pub fn statistics<M: Micro>(
+    micros: &[M],
+    lambda: f64,
+    t: f64,
+    dim: usize,
+    centres: &mut [f64],
+    weights: &mut [f64],
+    radii: &mut [f64],
+) -> Result<(), TooShort>
+    ensures { statistics_told result centres.new weights.new radii.new
+        ≡ statistics_read lambda t (seen dim M.body_of (take micros_most micros.now)) centres.old weights.old radii.old }
+{
+    let bodies = lists::each(micros, Body::new(), |m| *m.body());
+    statistics_of(
+        bodies,
+        micros.len(),
+        lambda,
+        t,
+        dim,
+        centres,
+        weights,
+        radii,
+    )
 }

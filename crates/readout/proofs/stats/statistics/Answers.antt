@@ -1,39 +1,17 @@
 -- `statistics` meets its contract. Assumes nothing.
-use native.Mathlib.Omega.{arith}
-use Rattle.readout.proofs.Slices.{Counted, short_centres, short_weights, short_radii, all_written}
-use Rattle.readout.proofs.Centres.{means_wide, few}
-use Rattle.readout.proofs.stats.statistics.Goals.{After-min-width}
+use Rattle.std.proofs.Common.{rules, ap, ◌∙◌, map, take, List, min}
+use mathlib.Core.List.{map-map}
+use Rattle.feature.specs.Feature.{max_dim}
+use Rattle.model.specs.declared.body.Body.{Body}
+use Rattle.model.specs.Body.{body_in}
+use Rattle.model.specs.ReadOut.{statistics_read}
+use Rattle.model.specs.Limits.{micros_most}
 use Rattle.readout.proofs.stats.statistics.Goals as goal
 
-counted : (c : goal.After-min-width) →
-    let a = c.args in
-    Counted a.bodies a.n c.min-end.result a.dim c.min-width.result
-counted c =
-    record { end_is = c.min-end.ensures; w_is = c.min-width.ensures; wide = means_wide c.args.bodies _ c.well_formed.0.1.1; long = omega arith }
-
-pub overflow_mul-end : goal.overflow_mul-end
-overflow_mul-end c = omega (arith, few c.min-end.result c.min-width.result (omega arith) (omega arith))
-
-pub returns-then-centres-end : goal.returns-then-centres-end
-returns-then-centres-end c =
-    let a = c.args in
-    short_centres a.lambda a.t (counted (goal.at.returns-then-centres-end c).After-min-width) a.centres.now a.weights.now a.radii.now c.if-centres-end.true
-
-pub returns-then-weights-end : goal.returns-then-weights-end
-returns-then-weights-end c =
-    let a = c.args in
-    short_weights a.lambda a.t (counted (goal.at.returns-then-weights-end c).After-min-width) a.centres.now a.weights.now a.radii.now
-    c.if-centres-end.false c.if-weights-end.true
-
-pub returns-then-radii-end : goal.returns-then-radii-end
-returns-then-radii-end c =
-    let a = c.args in
-    short_radii a.lambda a.t (counted (goal.at.returns-then-radii-end c).After-min-width) a.centres.now a.weights.now a.radii.now
-    c.if-centres-end.false c.if-weights-end.false c.if-radii-end.true
-
 pub returns : goal.returns
-returns c =
+returns g c =
     let a = c.args in
-    all_written a.lambda a.t (counted (goal.at.returns c).After-min-width) a.centres.now a.weights.now a.radii.now
-    c.if-centres-end.false c.if-weights-end.false c.if-radii-end.false _ _ _ c.write_centres.ensures c.write_figures.ensures.weights_after
-    c.write_figures.ensures.radii
+    c.statistics_of.ensures
+    ∙ ap (λ (l : List Body). statistics_read a.lambda a.t (map (body_in (min a.dim max_dim)) l) a.centres.now a.weights.now a.radii.now) (c.each-bodies.ensures g.M.Micro.body_of (λ m b k. search rules))
+    ∙ ap (λ (l : List Body). statistics_read a.lambda a.t l a.centres.now a.weights.now a.radii.now)
+    (map-map (body_in (min a.dim max_dim)) g.M.Micro.body_of (take micros_most a.micros.now))
