@@ -1,3 +1,3 @@
--- What the proofs of `src/` cite: a row of pairs, and the labels of groups.
-pub mod Rows
-pub mod Labelled
+-- What the proofs of `src/` cite, on plain lists.
+mod Rows
+mod Labelled

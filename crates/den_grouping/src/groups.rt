@@ -1,5 +1,5 @@
 // Which groups count, and the labels of their members.
-ghost use Rattle.std.specs.Prelude.{◌≤◌, ◌<◌, min, ℕ, ◌≡◌, map, take, get_or};
+ghost use Rattle.std.specs.Prelude.{◌≤◌, ◌<◌, min, ℕ, ◌≡◌, map, take, get_or, length};
 ghost use Rattle.std.specs.Float.Ieee.{le};
 ghost use Rattle.std.specs.Float.{nan};
 ghost use Rattle.union_find.specs.Steps.{work_by};
@@ -14,44 +14,38 @@ use labels::Labelled;
 use model::{DenMicro, DenParams, MICROS};
 
 // Which places' groups reach mu, by the sum at each place's root.
-fn reaching(roots: [usize; MICROS], sums: [f64; MICROS], n: usize, mu: f64) -> [bool; MICROS]
-    requires { (n ≤ micros_most) × ((i : ℕ) → i < micros_most → get_or roots i 0 < micros_most) }
-    ensures { take n result ≡ map (λ (v : ℕ). le mu (get_or sums v nan)) (take n roots) }
+fn reaching(roots: &[usize], sums: &[f64; MICROS], mu: f64) -> [bool; MICROS]
+    requires few { length roots.now ≤ micros_most }
+    requires low { (i : ℕ) → i < length roots.now → get_or roots.now i 0 < micros_most }
+    ensures { take (length roots.now) result ≡ map (λ (v : ℕ). le mu (get_or sums.now v nan)) roots.now }
 {
     let mut counts = [false; MICROS];
-    let mut i: usize = 0;
-    while i < n {
-        let v = roots[i];
-        counts[i] = mu <= sums[v];
-        i += 1;
+    for (i, &root) in roots.iter().enumerate() {
+        counts[i] = mu <= sums[root];
     }
     counts
 }
 
-// The labels of the first n at the clock t. Roots are sought for all of them.
-pub fn group_labels(pool: [DenMicro; MICROS], n: usize, params: DenParams, t: f64) -> Labelled
-    ensures labels_value { take n result.labels ≡ labels_in params t (seen (min params.settings.dim max_dim) n pool) }
-    ensures work { result.work ≡ work_by (find_steps_in params (seen (min params.settings.dim max_dim) n pool)) }
+// The labels of the first 64 at the clock t. Roots are sought for all of them.
+pub fn group_labels(pool: &[DenMicro], params: &DenParams, t: f64) -> Labelled
+    ensures labels_value { take (length pool.now) result.labels
+        ≡ labels_in params.now t (seen (min params.now.settings.dim max_dim) micros_most pool.now) }
+    ensures work { result.work ≡ work_by (find_steps_in params.now (seen (min params.now.settings.dim max_dim) micros_most pool.now)) }
 {
-    let end = lists::cut(n, MICROS);
-    let mut a = [0usize; PAIRS];
-    let mut b = [0usize; PAIRS];
+    let pool = &pool[..pool.len().min(MICROS)];
+    let mut pairs = [(0usize, 0usize); PAIRS];
     let k = close_pairs(
         pool,
-        end,
-        lists::cut(params.settings.dim, MAX_DIM),
+        params.settings.dim.min(MAX_DIM),
         params.eps2,
-        &mut a,
-        &mut b,
+        &mut pairs,
     );
-    let rooted = union_find::roots(&a[..k], &b[..k], [true; MICROS], end);
-    let roots = rooted.roots;
-    let weights = den_pool::faded_weights(pool, end, params.settings.lambda, t);
-    let sums = labels::sums(roots, weights, end);
-    let counts = reaching(roots, sums, end, params.settings.mu);
-    let work = rooted.work;
+    let rooted = union_find::roots(&pairs[..k], &[true; MICROS][..pool.len()]);
+    let weights = den_pool::faded_weights(pool, params.settings.lambda, t);
+    let sums = labels::sums(&rooted.roots, &weights[..pool.len()]);
+    let counts = reaching(&rooted.roots[..pool.len()], &sums, params.settings.mu);
     Labelled {
-        labels: labels::labels(roots, counts, end),
-        work,
+        labels: labels::labels(&rooted.roots, &counts[..pool.len()]),
+        work: rooted.work,
     }
 }

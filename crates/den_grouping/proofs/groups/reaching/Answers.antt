@@ -1,21 +1,22 @@
 -- `reaching` meets its contract. Assumes nothing.
-use mathlib.Core.Path.{refl}
+use Prim.Native.Nat.{ℕ}
+use mathlib.Core.Path.{sym, ap, ◌∙◌}
+use mathlib.Core.Bool.{Bool}
+use mathlib.Core.List.{List, [], ◌∷◌, ◌++◌}
 use native.Mathlib.Omega.{arith}
-use borrow.Author.Rules.{rules}
-use Rattle.lists.specs.Laws.Counted.{gather_starts, gather_goes, gather_ends}
+use lib.Ieee.{le, nan}
+use lib.ListN.{get_or, length-set}
+use Rattle.std.proofs.lemmas.List.{take_more_set, map_more}
 use Rattle.den_grouping.proofs.groups.reaching.Goals as goal
 
-pub loop-i-init : goal.loop-i-init
-loop-i-init c = gather_starts (omega (arith, c.requires.0)) (omega arith) (search rules)
-
-pub offset_bounds-sums-v : goal.offset_bounds-sums-v
-offset_bounds-sums-v c = omega (arith, c.requires.1 c.loop-i.i (omega arith))
-
-pub bounds-sums-v : goal.bounds-sums-v
-bounds-sums-v c = omega (arith, c.requires.1 c.loop-i.i (omega arith))
-
 pub loop-i-preserved : goal.loop-i-preserved
-loop-i-preserved c = gather_goes c.loop-i.invariant 0 c.loop-i-test.true refl
-
-pub returns : goal.returns
-returns c = gather_ends c.loop-i.invariant c.loop-i-test.false
+loop-i-preserved c =
+    let l = c.loop-i in
+    let roots = c.args.roots.now in
+    let reaches = λ (v : ℕ). le c.args.mu (get_or c.args.sums.now v nan) in
+    let here = reaches (get_or roots l.i 0) in (
+      length-set l.counts l.i here ∙ l.invariant.0,
+      take_more_set l.counts l.i here (omega (arith, l.invariant.0))
+          ∙ ap (λ (bs : List Bool). bs ++ here ∷ []) l.invariant.1
+          ∙ sym (map_more reaches roots l.i 0 (omega arith)),
+    )
