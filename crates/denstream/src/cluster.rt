@@ -4,6 +4,8 @@ ghost use Rattle.model.specs.Denstream.{cluster_of, finds_of, steps_of};
 ghost use Rattle.denstream.specs.View.{view};
 
 use crate::stream::DenStream;
+use labels::Labelled;
+use union_find::Work;
 
 // The finds that the labels took, the halving steps of all these, and the stream.
 #[derive(Clone, Copy)]
@@ -14,22 +16,29 @@ pub struct Clustered {
 }
 
 impl DenStream {
-    // Groups whose faded weights reach mu are labelled from 0 by first member; the others get -1.
+    // Groups whose faded weights reach mu are labelled from 0 by first member; the others get -1. The finds that this took.
+    fn relabel(&mut self) -> Work
+        ensures stream_after { view self.new ≡ cluster_of (view self.old) }
+        ensures work { result ≡ record { finds = finds_of (view self.old); steps = steps_of (view self.old) } }
+    {
+        let potential = self.potential();
+        let n = potential.len();
+        let Labelled { labels, work } = den_grouping::group_labels(potential, &self.params, self.t);
+        self.labels = labels;
+        self.label_count = n;
+        work
+    }
+
+    // The labels of the potential micro-clusters, and the finds that they took.
     pub fn cluster(mut self) -> Clustered
         ensures stream_value { view result.stream ≡ cluster_of (view self) }
         ensures finds { result.finds ≡ finds_of (view self) }
         ensures steps { result.steps ≡ steps_of (view self) }
     {
-        let params = self.params;
-        let potential = self.potential;
-        let n = den_placement::potential_held(self.potential_count);
-        let told = den_grouping::group_labels(potential, n, params, self.t);
-        let labels = told.labels;
-        self.labels = labels;
-        self.label_count = n;
+        let work = self.relabel();
         Clustered {
-            finds: told.work.finds,
-            steps: told.work.steps,
+            finds: work.finds,
+            steps: work.steps,
             stream: self,
         }
     }
