@@ -1,5 +1,5 @@
 -- A point's placement is document 01's: whether it has a place, its drift distance, and what becomes of the stream. Assumes nothing.
-use Rattle.std.specs.Prelude.{◌+◌, ◌<◌, ◌≡◌, refl, Bool, true, false, cond, ◌||◌, List, [], ◌∷◌, ◌++◌, Float, length, set, None, Some}
+use Rattle.std.specs.Prelude.{◌+◌, ◌<◌, ◌≡◌, refl, Bool, true, false, cond, ◌||◌, List, [], ◌∷◌, ◌++◌, Float, length, set, Some}
 use Rattle.std.specs.Bool.{then_some}
 use Rattle.std.specs.Option.{is_some}
 use Rattle.std.specs.Float.Ieee.{le}

@@ -1,6 +1,6 @@
 -- What is done to the arrays of the pools is done to the stream that keeps them. Assumes nothing.
 use Rattle.std.specs.Prelude.{ℕ, zero, suc, ◌+◌, ◌≤◌, ◌<◌, ◌≡◌, refl, List, [], ◌∷◌, ◌++◌, map, Float, length, take, set}
-use Rattle.std.proofs.Common.{sym, ap, ap₂, ◌∙◌, arith, length-take, length-take-le}
+use Rattle.std.proofs.Common.{ap, ap₂, ◌∙◌, arith, length-take, length-take-le}
 use Rattle.std.proofs.lemmas.List.{length-map, take_more_set}
 use Rattle.lists.specs.Retain.{retain, without}
 use Rattle.lists.specs.Laws.Rest.{take_set}
