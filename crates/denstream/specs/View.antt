@@ -1,13 +1,10 @@
 -- The stream of the arrays, and document 01's in it: the view. Definitions only.
 use Rattle.std.specs.Prelude.{ℕ, take}
 use Rattle.drift.specs.Monitor as drift
-use Rattle.model.specs.Outcome as outcome
 use Rattle.model.specs.DenState.{Holdings, State}
 use Rattle.den_pool.specs.Held.{settled_of}
 use Rattle.den_placement.specs.Pools.{pools_of}
 use Rattle.denstream.specs.declared.stream.DenStream.{DenStream}
-use Rattle.denstream.specs.declared.opening.Opened.{Opened}
-use Rattle.denstream.specs.declared.insert.Inserted.{Inserted}
 
 abbrev pub dim_of : DenStream → ℕ
 dim_of s = (settled_of s.params).settings.dim
@@ -18,11 +15,3 @@ held_in s = pools_of (dim_of s) s.potential s.potential_count s.outliers s.outli
 
 abbrev pub view : DenStream → State
 view s = record { params = settled_of s.params; t = s.t; held = held_in s; labels = take s.label_count s.labels; drift = drift.view s.drift }
-
--- what an opening tells
-abbrev pub opened_told : Opened → outcome.Opened State
-opened_told o = record { answer = o.answer; stream = view o.stream }
-
--- what an insert tells
-abbrev pub inserted_told : Inserted → outcome.Outcome State
-inserted_told r = record { answer = r.answer; stream = view r.stream }

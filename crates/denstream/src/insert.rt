@@ -2,21 +2,15 @@
 ghost use Rattle.std.specs.Prelude.{◌≡◌, ◌≢◌, length};
 ghost use Rattle.model.specs.Answers.{insertion_number};
 ghost use Rattle.model.specs.Numbers.{insertion_no, insertion_said};
+ghost use Rattle.model.specs.Told.{inserted_told};
 ghost use Rattle.model.specs.Denstream.{has_place, insert_of};
 ghost use Rattle.den_placement.specs.Placing.{Ready};
-ghost use Rattle.denstream.specs.View.{view, inserted_told};
+ghost use Rattle.denstream.specs.View.{view};
 ghost use Rattle.denstream.specs.Inside.Placed.{placed_by};
 
 use crate::stream::DenStream;
 use den_placement::{Placed, Target, outliers_held, potential_held};
-use model::InsertError;
-
-// The answer, and the stream given back.
-#[derive(Clone, Copy)]
-pub struct Inserted {
-    pub answer: Result<(), InsertError>,
-    pub stream: DenStream,
-}
+use model::{InsertError, Inserted};
 
 impl DenStream {
     // The micro-cluster with the point goes to its target, and the labels are cleared.
@@ -44,7 +38,7 @@ impl DenStream {
 
     // The questions in order; a point that none refuses is put at its place, and the clock ticks.
     fn insert(&mut self, x: &[f64]) -> Result<(), InsertError>
-        ensures told { inserted_told (record { answer = result; stream = self.new }) ≡ insert_of (view self.old) x.now }
+        ensures told { inserted_told view (record { answer = result; stream = self.new }) ≡ insert_of (view self.old) x.now }
         ensures kept { insertion_number result ≢ 0 → self.new ≡ self.old }
     {
         let placement = den_placement::place(
@@ -64,8 +58,8 @@ impl DenStream {
     }
 
     // The stream after the point; a refused stream is the one that came.
-    pub fn try_insert(mut self, x: &[f64]) -> Inserted
-        ensures result_value { inserted_told result ≡ insert_of (view self) x.now }
+    pub fn try_insert(mut self, x: &[f64]) -> Inserted<DenStream>
+        ensures result_value { inserted_told view result ≡ insert_of (view self) x.now }
         ensures kept { insertion_number result.answer ≢ 0 → result.stream ≡ self }
         ensures said { insertion_said result.answer
             ≡ insertion_no (view self).params.settings.dim (length x.now) (view self).t (has_place (view self) x.now) }

@@ -19,19 +19,11 @@ impl Stream for DenStream {
     ghost view = { own.view };
 
     fn open(settings: DenSettings) -> Opened<DenStream> {
-        let opened = DenStream::new(settings);
-        Opened {
-            answer: opened.answer,
-            stream: opened.stream,
-        }
+        DenStream::new(settings)
     }
 
     fn try_insert(self, x: &[f64]) -> Inserted<DenStream> {
-        let inserted = DenStream::try_insert(self, x);
-        Inserted {
-            answer: inserted.answer,
-            stream: inserted.stream,
-        }
+        DenStream::try_insert(self, x)
     }
 
     fn cluster(self) -> Clustered<DenStream> {

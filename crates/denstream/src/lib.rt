@@ -10,6 +10,4 @@ mod stream;
 mod tick;
 
 pub use cluster::Clustered;
-pub use insert::Inserted;
-pub use opening::Opened;
 pub use stream::DenStream;

@@ -3,21 +3,15 @@ ghost use Rattle.std.specs.Prelude.{min, ◌≡◌};
 ghost use Rattle.feature.specs.Feature.{max_dim};
 ghost use Rattle.model.specs.Answers.{opening_number};
 ghost use Rattle.model.specs.Numbers.{den_opening_no};
+ghost use Rattle.model.specs.Told.{opened_told};
 ghost use Rattle.model.specs.Denstream.{fresh, open_of};
 ghost use Rattle.model.specs.Denstream as doc;
 ghost use Rattle.den_pool.specs.Held.{with_dim};
-ghost use Rattle.denstream.specs.View.{view, opened_told};
+ghost use Rattle.denstream.specs.View.{view};
 
 use crate::stream::DenStream;
 use drift::DriftMonitor;
-use model::{Body, DenMicro, DenParams, DenSettings, MICROS, OpenError};
-
-// The answer, and the stream; beside a refusal stands one whose settings are all 0.
-#[derive(Clone, Copy)]
-pub struct Opened {
-    pub answer: Result<(), OpenError>,
-    pub stream: DenStream,
-}
+use model::{Body, DenMicro, DenParams, DenSettings, MICROS, OpenError, Opened};
 
 // What both streams ask, then one question more: is beta * mu above 1?
 fn asked(settings: DenSettings) -> Result<(), OpenError>
@@ -65,9 +59,9 @@ impl DenStream {
         }
     }
 
-    // The questions in order: the first no decides.
-    pub fn new(settings: DenSettings) -> Opened
-        ensures result_value { opened_told result ≡ open_of settings }
+    // The questions in order: the first no decides. Beside a refusal stands a stream whose settings are all 0.
+    pub fn new(settings: DenSettings) -> Opened<DenStream>
+        ensures result_value { opened_told view result ≡ open_of settings }
         ensures said { opening_number result.answer ≡ den_opening_no settings }
     {
         let answer = asked(settings);
