@@ -1,26 +1,21 @@
 -- `try_predict` meets its contract. Assumes nothing.
-use Prim.Native.Nat.{ℕ, min}
-use mathlib.Core.Path.{refl, ap, ◌∙◌}
-use mathlib.Core.List.{List, map}
-use lib.ListN.{take}
+use Rattle.std.proofs.Common.{refl, ap, ap₂, ◌∙◌, List, ℤ, min, map}
 use Rattle.feature.specs.Feature.{max_dim}
 use Rattle.model.specs.declared.body.Body.{Body}
+use Rattle.model.specs.declared.micro.DenMicro.{DenMicro}
 use Rattle.model.specs.ReadOut.{predict_of}
 use Rattle.readout.specs.Laws.Seen.{bodies_are}
-use Rattle.den_pool.specs.Held.{micro_in, seen, body_of}
+use Rattle.den_pool.specs.Held.{micro_in}
 use Rattle.denstream.specs.View.{held_in}
 use Rattle.den_readout.proofs.try_predict.Goals as goal
 
 pub returns : goal.returns
 unfolding held_in
 returns c =
-    let a = c.args in
-    let s = a.stream in
-    let n = c.potential_held-n in
-    let bs = c.bodies-bodies in
+    let s = c.args.stream.now in
     let d = min s.params.settings.dim max_dim in
-    let labels = take s.label_count s.labels in
     c.predict.ensures
-    ∙ ap (λ (l : List Body). predict_of d s.params.eps2 l labels a.x.now)
-    (bodies_are body_of (micro_in d) s.params.settings.dim (λ m. refl) n.result bs.result s.potential bs.ensures
-    ∙ ap (λ (h : ℕ). map body_of (seen d h s.potential)) n.ensures)
+    ∙ ap₂ (λ (l : List Body) (k : List ℤ). predict_of d s.params.eps2 l k c.args.x.now)
+    (bodies_are (λ (m : DenMicro). m.body) (micro_in d) s.params.settings.dim (λ m. refl) c.potential.result.now
+    ∙ ap (λ (ms : List DenMicro). map (λ (m : DenMicro). m.body) (map (micro_in d) ms)) c.potential.ensures)
+    c.labels_told.ensures
