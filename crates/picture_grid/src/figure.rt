@@ -20,35 +20,35 @@ pub fn rounded(x: f64) -> u64
 }
 
 // A number of tenths, with a sign.
-pub(crate) fn add_tenths(text: Text, width: usize, sign: u8, n: u64) -> Text
-    ensures { Added text (tenths width sign n) result }
+pub(crate) fn add_tenths(text: &mut Text, width: usize, sign: u8, n: u64)
+    ensures { Added text.old (tenths width sign n) text.new }
 {
-    let whole = text::add_right(text, width, sign, n / 10);
-    let point = text::add(whole, b".");
-    text::add_number(point, n % 10)
+    text.add_right(width, sign, n / 10);
+    text.add(b".");
+    text.add_number(n % 10);
 }
 
 // A size with its sign; one that has no room is told by another sign in front.
-fn add_sized(text: Text, width: usize, sign: u8, beyond: u8, size: f64) -> Text
-    ensures { Added text (sized width sign beyond size) result }
+fn add_sized(text: &mut Text, width: usize, sign: u8, beyond: u8, size: f64)
+    ensures { Added text.old (sized width sign beyond size) text.new }
 {
     if size + 0.5 < 100000.0 {
         return add_tenths(text, width, sign, rounded(size));
     }
-    let more = text::add_byte(text, beyond);
-    add_tenths(more, width, sign, rounded(size))
+    text.add_byte(beyond);
+    add_tenths(text, width, sign, rounded(size));
 }
 
 // A figure in tenths; what is no number is told so.
-pub fn add_figure(text: Text, width: usize, plus: u8, x: f64) -> Text
-    ensures { Added text (figure_of width plus x) result }
+pub fn add_figure(text: &mut Text, width: usize, plus: u8, x: f64)
+    ensures { Added text.old (figure_of width plus x) text.new }
 {
-    if x != x {
-        let apart = text::add_blanks(text, width);
-        return text::add(apart, b"nan");
+    if x.is_nan() {
+        text.add_blanks(width);
+        return text.add(b"nan");
     }
     if x < 0.0 {
         return add_sized(text, width, b'-', b'<', -x);
     }
-    add_sized(text, width, plus, b'>', x)
+    add_sized(text, width, plus, b'>', x);
 }

@@ -5,7 +5,7 @@ ghost use Rattle.picture_grid.specs.Grid.{framed, line_text, border_text, row_te
 
 use crate::figure::add_tenths;
 use crate::upward::Upward;
-use text::{Text, add};
+use text::Text;
 
 // The frame's right column and its top line, the lines between, and the cells of a line, the frame's included.
 pub const RIGHT: usize = 62;
@@ -33,92 +33,83 @@ fn framed(frame: u8, mark: u8) -> u8
 }
 
 // A line of cells, marks over the frame.
-fn add_line(text: Text, frame: &[u8; WIDTH], cells: [u8; CELLS], row: usize) -> Text
+fn add_line(text: &mut Text, frame: &[u8; WIDTH], cells: &[u8; CELLS], row: usize)
     requires { row ≤ 20 }
-    ensures { Added text (line_text frame.now cells row) result }
+    ensures { Added text.old (line_text frame.now cells.now row) text.new }
 {
-    let mut t = text;
-    let mut i: usize = 0;
-    while i < WIDTH {
-        t = text::add_byte(t, framed(frame[i], cells[row * WIDTH + i]));
-        i += 1;
+    for (frame, mark) in frame.iter().zip(&cells[row * WIDTH..]) {
+        text.add_byte(framed(*frame, *mark));
     }
-    t
 }
 
 // The frame's top or bottom line.
-fn add_border(text: Text, cells: [u8; CELLS], row: usize) -> Text
+fn add_border(text: &mut Text, cells: &[u8; CELLS], row: usize)
     requires { row ≤ 20 }
-    ensures { Added text (border_text cells row) result }
+    ensures { Added text.old (border_text cells.now row) text.new }
 {
-    let apart = add(text, b"       ");
-    let line = add_line(
-        apart,
+    text.add(b"       ");
+    add_line(
+        text,
         b"+|--------------|--------------|--------------|--------------|+",
         cells,
         row,
     );
-    add(line, b"\n")
+    text.add(b"\n");
 }
 
 // A line between them, with its figure.
-fn add_row(text: Text, up: Upward, cells: [u8; CELLS], row: usize) -> Text
+fn add_row(text: &mut Text, up: Upward, cells: &[u8; CELLS], row: usize)
     requires { row < 19 }
-    ensures { Added text (row_text up cells row) result }
+    ensures { Added text.old (row_text up cells.now row) text.new }
 {
-    let named = add_tenths(
+    add_tenths(
         text,
         3,
         b' ',
         up.low() as u64 + row as u64 * up.step() as u64,
     );
-    let apart = add(named, b" ");
-    let line = add_line(
-        apart,
+    text.add(b" ");
+    add_line(
+        text,
         b"|                                                             |",
         cells,
         row + 1,
     );
-    add(line, b"\n")
+    text.add(b"\n");
 }
 
 // From the top down.
-fn add_rows(text: Text, up: Upward, cells: [u8; CELLS]) -> Text
-    ensures { Added text (rows_text up cells) result }
+fn add_rows(text: &mut Text, up: Upward, cells: &[u8; CELLS])
+    ensures { Added text.old (rows_text up cells.now) text.new }
 {
-    let mut t = text;
-    let mut i: usize = 0;
-    while i < LINES {
-        t = add_row(t, up, cells, LINES - 1 - i);
-        i += 1;
+    for row in (0..LINES).rev() {
+        add_row(text, up, cells, row);
     }
-    t
 }
 
 // How many have no place, if there are any.
-fn add_hidden(text: Text, hidden: u64) -> Text
-    ensures { Added text (hidden_text hidden) result }
+fn add_hidden(text: &mut Text, hidden: u64)
+    ensures { Added text.old (hidden_text hidden) text.new }
 {
     if hidden == 0 {
-        return text;
+        return;
     }
-    let named = add(text, b"not shown (nan): ");
-    let counted = text::add_number(named, hidden);
-    add(counted, b"\n")
+    text.add(b"not shown (nan): ");
+    text.add_number(hidden);
+    text.add(b"\n");
 }
 
 // The title, the frame with its marks, the axis below, and how many have no place.
-pub fn add_plot(text: Text, up: Upward, plot: Plot) -> Text
-    ensures { Added text (grid_text up plot) result }
+pub fn add_plot(text: &mut Text, up: Upward, plot: &Plot)
+    ensures { Added text.old (grid_text up plot.now) text.new }
 {
-    let cells = plot.cells;
-    let titled = up.add_title(text);
-    let top = add_border(titled, cells, TOP);
-    let rows = add_rows(top, up, cells);
-    let bottom = add_border(rows, cells, 0);
-    let axis = add(
-        bottom,
+    let cells = &plot.cells;
+    text.add(up.title());
+    add_border(text, cells, TOP);
+    add_rows(text, up, cells);
+    add_border(text, cells, 0);
+    text.add(
         b"       -60            -30             0             +30            +60  rate (s/d)\n",
     );
-    add_hidden(axis, plot.hidden)
+    add_hidden(text, plot.hidden);
 }

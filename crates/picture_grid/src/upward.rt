@@ -1,11 +1,8 @@
 // What a grid shows upwards: the figures of its lines, in tenths.
 ghost use Rattle.std.specs.Prelude.{◌≡◌};
-ghost use Rattle.text.specs.Text.{Added};
 ghost use Rattle.picture_grid.specs.Upward.{low_of, step_of, title_of};
 
-use text::{Text, add};
-
-#[derive(Clone, Copy)]
+#[derive(Clone, Copy, Debug, PartialEq, Eq)]
 pub enum Upward {
     BeatError,
     Amplitude,
@@ -17,8 +14,8 @@ impl Upward {
         ensures { result ≡ low_of self }
     {
         match self {
-            Upward::BeatError => 0,
-            Upward::Amplitude => 1500,
+            Self::BeatError => 0,
+            Self::Amplitude => 1500,
         }
     }
 
@@ -27,18 +24,18 @@ impl Upward {
         ensures { result ≡ step_of self }
     {
         match self {
-            Upward::BeatError => 2,
-            Upward::Amplitude => 100,
+            Self::BeatError => 2,
+            Self::Amplitude => 100,
         }
     }
 
     // The line above the grid.
-    pub(crate) fn add_title(self, text: Text) -> Text
-        ensures { Added text (title_of self) result }
+    pub(crate) fn title(self) -> &'static [u8]
+        ensures { result.now ≡ title_of self }
     {
         match self {
-            Upward::BeatError => add(text, b"\nbeat error (ms)\n"),
-            Upward::Amplitude => add(text, b"\namplitude (deg)\n"),
+            Self::BeatError => b"\nbeat error (ms)\n",
+            Self::Amplitude => b"\namplitude (deg)\n",
         }
     }
 }

@@ -13,4 +13,4 @@ pub returns : goal.returns
 returns c =
     let a = c.args in
     let size = worded (ap (tenths a.width a.sign) c.rounded-2.ensures) c.add_tenths-2.ensures in
-    rw c.if-size.false (both c.add_byte-more.ensures size)
+    rw c.if-size.false (both c.add_byte.ensures size)

@@ -5,7 +5,7 @@ use Rattle.text.specs.Laws.Pieces.{both, worded}
 use Rattle.picture_grid.specs.Figure.{tenths}
 use Rattle.picture_grid.specs.Upward.{low_of, step_of}
 use Rattle.picture_grid.proofs.Lines.{lines_fit}
-use Rattle.picture_grid.proofs.grid.add_row.Goals.{After-add_tenths-named, After-step}
+use Rattle.picture_grid.proofs.grid.add_row.Goals.{After-add_tenths, After-step}
 use Rattle.picture_grid.proofs.grid.add_row.Goals as goal
 
 -- the figure of a line fits
@@ -20,17 +20,17 @@ pub overflow_add-low : goal.overflow_add-low
 overflow_add-low c = record { fits = (figure c).1 }
 
 -- the figure before the row's line
-named : (c : goal.After-add_tenths-named) →
+named : (c : goal.After-add_tenths) →
     let a = c.args in
-    Added a.text (tenths 3 32 (low_of a.up + a.row * step_of a.up)) c.add_tenths-named.result
+    Added a.text.now (tenths 3 32 (low_of a.up + a.row * step_of a.up)) c.add_tenths.new.text
 named c =
     let a = c.args in
     let low = c.low in
     let step = c.step in
     let e : low.result + a.row * step.result ≡ low_of a.up + a.row * step_of a.up = rw (low.ensures, step.ensures) in
-    worded (ap (tenths 3 32) e) c.add_tenths-named.ensures
+    worded (ap (tenths 3 32) e) c.add_tenths.ensures
 
 pub returns : goal.returns
 returns c =
-    let figured = named (goal.at.returns c).After-add_tenths-named in
+    let figured = named (goal.at.returns c).After-add_tenths in
     search both
