@@ -1,3 +1,3 @@
 -- What the proofs of picture_lines share.
-pub mod Marks
 pub mod Plotting
+pub mod Rows

@@ -22,3 +22,7 @@ row_at centres weights labels i =
       weight = get_or weights i nan;
       mark = mark_of (get_or labels i (pos 0));
     }
+
+-- the row at a place among rows
+abbrev pub row_in : List Row → ℕ → Row
+row_in rows i = get_or rows i (record { rate = nan; amplitude = nan; beat_error = nan; weight = nan; mark = 0 })

@@ -1,19 +1,18 @@
 // Where a micro-cluster stands in a grid; what lies outside stands in the frame.
-ghost use Rattle.std.specs.Prelude.{◌≡◌, ◌+◌, ◌≤◌, ◌<◌};
+ghost use Rattle.std.specs.Prelude.{◌≡◌, ◌+◌, ◌≤◌, ◌<◌, length};
 ghost use Rattle.model.specs.Limits.{micros_most};
 ghost use Rattle.text.specs.Text.{Added};
 ghost use Rattle.picture_grid.specs.Grid.{grid_text};
-ghost use Rattle.picture_lines.specs.Row.{row_at};
+ghost use Rattle.picture_lines.specs.Row.{row_in};
 ghost use Rattle.picture_lines.specs.Plot.{upward_of, cell_of, place_of, is_hidden, over_of, marked, plot_of};
 
-use crate::row::{CENTRES, Row, WEAK, row_at};
-use model::MICROS;
+use crate::row::{Row, WEAK};
 use picture_grid::{CELLS, Plot, RIGHT, TOP, Upward, WIDTH};
 use text::Text;
 
 // In tenths.
-fn upward(up: Upward, row: Row) -> f64
-    ensures { result ≡ upward_of up row }
+fn upward(up: Upward, row: &Row) -> f64
+    ensures { result ≡ upward_of up row.now }
 {
     match up {
         Upward::BeatError => row.beat_error,
@@ -25,12 +24,12 @@ fn upward(up: Upward, row: Row) -> f64
 fn cell(low: f64, step: f64, last: usize, x: f64) -> usize
     ensures { result ≡ cell_of low step last x }
 {
-    lists::cut(picture_grid::rounded((x - low) / step + 1.0) as usize, last)
+    (picture_grid::rounded((x - low) / step + 1.0) as usize).min(last)
 }
 
 // A column is 2 s/d from -60 on.
-fn place(up: Upward, row: Row) -> usize
-    ensures value { result ≡ place_of up row }
+fn place(up: Upward, row: &Row) -> usize
+    ensures value { result ≡ place_of up row.now }
     ensures upper_bound { result < 1323 }
 {
     let line = cell(up.low() as f64, up.step() as f64, TOP, upward(up, row));
@@ -39,83 +38,56 @@ fn place(up: Upward, row: Row) -> usize
 }
 
 // What is no number has no place.
-fn is_hidden(up: Upward, row: Row) -> bool
-    ensures { result ≡ is_hidden up row }
+fn is_hidden(up: Upward, row: &Row) -> bool
+    ensures { result ≡ is_hidden up row.now }
 {
-    if row.rate != row.rate {
-        return true;
-    }
-    let x = upward(up, row);
-    x != x
+    row.rate.is_nan() || upward(up, row).is_nan()
 }
 
 // What stands in a cell where a mark comes: a dot covers nothing.
 fn over(old: u8, mark: u8) -> u8
     ensures { result ≡ over_of old mark }
 {
-    if mark == WEAK {
-        if old != b' ' {
-            return old;
-        }
+    if mark == WEAK && old != b' ' {
+        old
+    } else {
+        mark
     }
-    mark
 }
 
 // A mark in its cell, or one more without a place.
-fn marked(plot: Plot, up: Upward, row: Row) -> Plot
-    requires { plot.hidden ≤ micros_most }
-    ensures value { result ≡ marked up plot row }
-    ensures hidden_bound { result.hidden ≤ plot.hidden + 1 }
+fn add_mark(plot: &mut Plot, up: Upward, row: &Row)
+    requires { plot.old.hidden ≤ micros_most }
+    ensures value { plot.new ≡ marked up plot.old row.now }
+    ensures hidden_bound { plot.new.hidden ≤ plot.old.hidden + 1 }
 {
-    let mut cells = plot.cells;
     if is_hidden(up, row) {
-        return Plot {
-            cells,
-            hidden: plot.hidden + 1,
-        };
+        plot.hidden += 1;
+        return;
     }
     let at = place(up, row);
-    cells[at] = over(cells[at], row.mark);
-    Plot {
-        cells,
-        hidden: plot.hidden,
-    }
+    plot.cells[at] = over(plot.cells[at], row.mark);
 }
 
-// The first n, in list order.
-fn plotted(
-    up: Upward,
-    centres: [f64; CENTRES],
-    weights: [f64; MICROS],
-    labels: [i64; MICROS],
-    n: usize,
-) -> Plot
-    requires { n ≤ micros_most }
-    ensures { result ≡ plot_of up (row_at centres weights labels) n }
+// Every row, in list order.
+fn plotted(up: Upward, rows: &[Row]) -> Plot
+    requires { length rows.now ≤ micros_most }
+    ensures { result ≡ plot_of up (row_in rows.now) (length rows.now) }
 {
     let mut plot = Plot {
         cells: [b' '; CELLS],
         hidden: 0,
     };
-    let mut i: usize = 0;
-    while i < n {
-        plot = marked(plot, up, row_at(centres, weights, labels, i));
-        i += 1;
+    for row in rows {
+        add_mark(&mut plot, up, row);
     }
     plot
 }
 
-// The grid of the first n.
-pub(crate) fn add_grid(
-    text: Text,
-    up: Upward,
-    centres: [f64; CENTRES],
-    weights: [f64; MICROS],
-    labels: [i64; MICROS],
-    n: usize,
-) -> Text
-    requires { n ≤ micros_most }
-    ensures { Added text (grid_text up (plot_of up (row_at centres weights labels) n)) result }
+// The grid of the rows.
+pub(crate) fn add_grid(text: &mut Text, up: Upward, rows: &[Row])
+    requires { length rows.now ≤ micros_most }
+    ensures { Added text.old (grid_text up (plot_of up (row_in rows.now) (length rows.now))) text.new }
 {
-    picture_grid::add_plot(text, up, plotted(up, centres, weights, labels, n))
+    picture_grid::add_plot(text, up, &plotted(up, rows));
 }

@@ -1,5 +1,7 @@
 // A micro-cluster in a row of its own: its centre's figures, its weight and the mark of its family.
-ghost use Rattle.std.specs.Prelude.{◌≡◌, ◌<◌};
+ghost use Rattle.std.specs.Prelude.{◌≡◌, ◌<◌, pos, slice_index_or, map};
+ghost use Rattle.std.specs.Float.{nan};
+ghost use Rattle.std.specs.List.{range_with_len};
 ghost use Rattle.model.specs.Limits.{micros_most};
 ghost use Rattle.picture_lines.specs.Row.{letter_of, mark_of, row_at};
 
@@ -11,7 +13,7 @@ pub const CENTRES: usize = 192;
 // The mark of what is in no family.
 pub(crate) const WEAK: u8 = b'.';
 
-#[derive(Clone, Copy)]
+#[derive(Clone, Copy, Debug, Default, PartialEq)]
 pub struct Row {
     pub rate: f64,
     pub amplitude: f64,
@@ -24,40 +26,51 @@ pub struct Row {
 pub(crate) fn letter(family: u64) -> u8
     ensures { result ≡ letter_of family }
 {
-    if family < 26 {
-        return 65 + family as u8;
+    match family {
+        0..26 => b'A' + family as u8,
+        26..52 => b'a' + (family as u8 - 26),
+        _ => b'#',
     }
-    if family < 52 {
-        return 71 + family as u8;
-    }
-    b'#'
 }
 
 // The letter of a family, or the mark of none.
 fn mark(label: i64) -> u8
     ensures { result ≡ mark_of label }
 {
-    if 0 <= label {
-        return letter(label as u64);
+    match u64::try_from(label) {
+        Ok(family) => letter(family),
+        Err(_) => WEAK,
     }
-    WEAK
+}
+
+// The figure at a place, or what is no number.
+fn figure(figures: &[f64], i: usize) -> f64
+    ensures { result ≡ slice_index_or figures.now i nan }
+{
+    figures.get(i).copied().unwrap_or(f64::NAN)
 }
 
 // The row of the micro-cluster at a place.
-pub(crate) fn row_at(
-    centres: [f64; CENTRES],
-    weights: [f64; MICROS],
-    labels: [i64; MICROS],
-    i: usize,
-) -> Row
+fn row_at(centres: &[f64], weights: &[f64], labels: &[i64], i: usize) -> Row
     requires { i < micros_most }
-    ensures { result ≡ row_at centres weights labels i }
+    ensures { result ≡ row_at centres.now weights.now labels.now i }
 {
     Row {
-        rate: centres[i * 3],
-        amplitude: centres[i * 3 + 1],
-        beat_error: centres[i * 3 + 2],
-        weight: weights[i],
-        mark: mark(labels[i]),
+        rate: figure(centres, i * 3),
+        amplitude: figure(centres, i * 3 + 1),
+        beat_error: figure(centres, i * 3 + 2),
+        weight: figure(weights, i),
+        mark: mark(labels.get(i).copied().unwrap_or(0)),
     }
+}
+
+// A row for each place. A loop: of array::from_fn std's contracts do not say that a closure keeps what it captured.
+pub(crate) fn rows_of(centres: &[f64], weights: &[f64], labels: &[i64]) -> [Row; MICROS]
+    ensures { result ≡ map (row_at centres.now weights.now labels.now) (range_with_len 0 micros_most) }
+{
+    let mut rows = [Row::default(); MICROS];
+    for i in 0..MICROS {
+        rows[i] = row_at(centres, weights, labels, i);
+    }
+    rows
 }

@@ -1,11 +1,10 @@
-use Prim.Native.Nat.{◌-◌, ◌≤◌}
-use mathlib.Core.Path.{◌≡◌}
-use Rattle.picture_lines.specs.Row.{row_at}
+use Rattle.std.proofs.Common.{◌≡◌, ◌≤◌}
+use Rattle.picture_lines.specs.Row.{row_in}
 use Rattle.picture_lines.specs.Plot.{plot_of}
 use Rattle.picture_lines.proofs.plot.plotted.Given as goal
 
-abbrev pub invariant-loop-i : goal.invariant-loop-i
-invariant-loop-i l = (l.i ≤ l.n) × (l.plot.hidden ≤ l.i) × (l.plot ≡ plot_of l.up (row_at l.centres l.weights l.labels) l.i)
-
-abbrev pub decreases-loop-i : goal.decreases-loop-i
-decreases-loop-i l = l.n - l.i
+abbrev pub invariant-loop-row : goal.invariant-loop-row
+invariant-loop-row l = record {
+  hidden : l.plot.hidden ≤ l.row-index;
+  is : l.plot ≡ plot_of l.up (row_in l.rows) l.row-index;
+}

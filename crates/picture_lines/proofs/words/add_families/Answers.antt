@@ -1,28 +1,23 @@
 -- `add_families` meets its contract. Assumes nothing.
-use mathlib.Core.Path.{◌≡◌, ap}
-use native.Mathlib.Omega.{arith}
+use Rattle.std.proofs.Common.{ℕ, List, length, ap, arith}
 use Rattle.text.specs.Laws.Pieces.{first, more, worded, ended}
-use Rattle.picture_lines.specs.Row.{row_at}
+use Rattle.picture_lines.specs.declared.row.Row.{Row}
+use Rattle.picture_lines.specs.Row.{letter_of, row_in}
 use Rattle.picture_lines.specs.Words.{lines_in}
-use Rattle.picture_lines.proofs.words.add_families.Invariants.{family_in}
 use Rattle.picture_lines.proofs.words.add_families.Goals as goal
 
+-- the lines of a family
+abbrev family_in : List Row → (k : ℕ) → List ℕ
+family_in rows k = lines_in (row_in rows) (length rows) (letter_of k)
+
 pub loop-family-init : goal.loop-family-init
-loop-family-init c =
-    let a = c.args in
-    let at = row_at a.centres a.weights a.labels in
-    (omega arith, first (family_in at a.n) a.text (omega arith))
+loop-family-init c = first (family_in c.args.rows.now) c.args.text.now
 
 pub loop-family-preserved : goal.loop-family-preserved
 loop-family-preserved c =
-    let a = c.args in
+    let rows = c.args.rows.now in
     let l = c.loop-family in
-    let at = row_at a.centres a.weights a.labels in
-    let lines = worded (ap (lines_in at a.n) c.letter.ensures) c.add_lines_in-t.ensures in
-    (omega arith, more (family_in at a.n) l.family l.invariant.1 lines)
+    more (family_in rows) l.family l.invariant (worded (ap (lines_in (row_in rows) (length rows)) c.letter.ensures) c.add_lines_in.ensures)
 
 pub returns : goal.returns
-returns c =
-    let a = c.args in
-    let e : c.loop-family.family ≡ 53 = omega arith in
-    ended (family_in (row_at a.centres a.weights a.labels) a.n) e c.loop-family.invariant.1
+returns c = ended (family_in c.args.rows.now) (omega arith) c.loop-family.invariant

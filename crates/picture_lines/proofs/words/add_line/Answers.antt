@@ -6,8 +6,8 @@ use Rattle.picture_lines.proofs.words.add_line.Goals as goal
 pub returns : goal.returns
 unfolding line_of
 returns c =
-    let up_to_rate = both (both c.add_heading-named.ensures c.add-rate_at.ensures) c.add_figure-rate.ensures in
-    let up_to_amplitude = both (both up_to_rate c.add-amplitude_at.ensures) c.add_figure-amplitude.ensures in
-    let up_to_error = both (both up_to_amplitude c.add-beat_error_at.ensures) c.add_figure-beat_error.ensures in
-    let up_to_weight = both (both up_to_error c.add-weight_at.ensures) c.add_figure-weight.ensures in
-    both up_to_weight c.add.ensures
+    let up_to_rate = both (both c.add_heading.ensures c.add.ensures) c.add_figure.ensures in
+    let up_to_amplitude = both (both up_to_rate c.add-2.ensures) c.add_figure-2.ensures in
+    let up_to_error = both (both up_to_amplitude c.add-3.ensures) c.add_figure-3.ensures in
+    let up_to_weight = both (both up_to_error c.add-4.ensures) c.add_figure-4.ensures in
+    both up_to_weight c.add-5.ensures
