@@ -2,3 +2,4 @@
 pub mod Points
 pub mod Going
 pub mod Cases
+pub mod Numbers

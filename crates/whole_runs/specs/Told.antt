@@ -1,6 +1,8 @@
 -- A whole run of any stream in plain numbers. Definitions only.
-use Rattle.std.specs.Prelude.{ℕ, zero, suc, List, Float}
+use Rattle.std.specs.Prelude.{ℕ, zero, suc, List, length, Float}
 use Rattle.drift.specs.declared.DriftReport.{DriftReport}
+use Rattle.drift.specs.Monitor.{report_of}
+use Rattle.model.specs.ReadOut.{clusters_in}
 use Rattle.model.specs.Stream.{State, Kind, open_of, insert_of, cluster_of}
 use Rattle.session.specs.Whole.{session_of}
 use Rattle.whole_runs.specs.declared.figures.Figures.{Figures}
@@ -20,6 +22,10 @@ figures number micros families report = record {
   distance = report.distance;
   window = report.window;
 }
+
+-- what a stream says of itself, beside its run's number
+abbrev pub figures_in : {S P H : Type 0} (k : Kind S P H) → ℕ → State P H → Figures
+figures_in k number s = figures number (length (k.bodies_of s.held)) (clusters_in s.labels) (report_of s.drift)
 
 -- the figures, and the slice of the inserts' numbers afterwards
 pub record Told : Type 0 where

@@ -4,6 +4,7 @@
 mod db;
 mod den;
 mod figures;
+mod run;
 mod window;
 
 pub use db::dbstream_run;

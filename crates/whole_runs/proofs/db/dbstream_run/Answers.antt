@@ -1,11 +1,8 @@
 -- `dbstream_run` meets its contract. Assumes nothing.
-use Rattle.model.specs.Dbstream.{cluster_of}
-use Rattle.whole_runs.specs.Streams.{dbstream_figures}
-use Rattle.whole_runs.specs.Laws.Stream.{read_out}
+use Rattle.std.proofs.Common.{◌∙◌}
+use Rattle.session.specs.Points.{points_of}
+use Rattle.whole_runs.specs.Laws.Stream.{dbstream_told}
 use Rattle.whole_runs.proofs.db.dbstream_run.Goals as goal
 
 pub returns : goal.returns
-returns c =
-    let a = c.args in
-    let run = c.dbstream_session-run in
-    read_out cluster_of dbstream_figures a.rounds _ _ _ _ run.ensures.numbers_after c.clustered-last.ensures c.figures_of.ensures
+returns c = let a = c.args in c.run.ensures ∙ dbstream_told _ (points_of a.lengths.now a.values.now) a.rounds a.numbers.now
