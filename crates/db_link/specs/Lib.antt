@@ -1,5 +1,2 @@
--- Links: their order, which of them stay, and how they are listed.
+-- Links: the one by which a pair is searched for.
 pub mod Order
-pub mod Among
-pub mod Listed
-pub mod Laws

@@ -5,4 +5,4 @@ mod order;
 mod stay;
 
 pub use order::{is_before, key_of, same_ends};
-pub use stay::{Links, is_among, retained};
+pub use stay::{is_held, retained};

@@ -1,70 +1,38 @@
 // The links that a cleanup keeps.
-ghost use Rattle.std.specs.Prelude.{◌≡◌, take};
+ghost use Rattle.std.specs.Prelude.{◌≡◌, ◌≤◌, length, nat_eq, take};
+ghost use Rattle.std.specs.List.{list_any};
 ghost use Rattle.lists.specs.Retain.{retain};
-ghost use Rattle.db_link.specs.Among.{is_among, stays_among};
-ghost use Rattle.db_link.specs.Listed.{links_told, links_of};
+ghost use Rattle.model.specs.DbInsert.{is_held, link_stays};
 
-use model::{LINKS, Link, MICROS, MicroId};
+use model::{DbMicro, Link, MicroId};
 
-// The list of links: the first count of the array.
-#[derive(Clone, Copy)]
-pub struct Links {
-    pub links: [Link; LINKS],
-    pub count: usize,
+// The search, in std's words: a chain is proved by these alone.
+fn some_has(micros: &[DbMicro], id: MicroId) -> bool
+    ensures { result ≡ list_any (λ m. nat_eq m.id.0 id.0) micros.now }
+{
+    micros.iter().any(|m| m.id == id)
 }
 
-// Whether id is one of the first n.
-pub fn is_among(ids: [MicroId; MICROS], n: usize, id: MicroId) -> bool
-    ensures { result ≡ is_among (take n ids) id }
+// Whether one of the micro-clusters has this creation number.
+pub fn is_held(micros: &[DbMicro], id: MicroId) -> bool
+    ensures { result ≡ is_held micros.now id }
 {
-    let m = lists::cut(n, MICROS);
-    let mut i = 0;
-    while i < m {
-        let a = ids[i];
-        if a.0 == id.0 {
-            return true;
-        }
-        i += 1;
-    }
-    false
+    some_has(micros, id)
 }
 
 // Whether both ends are held and the faded value is not below floor.
-fn stays(l: Link, ids: [MicroId; MICROS], n: usize, lambda: f64, floor: f64, t: f64) -> bool
-    ensures { result ≡ stays_among lambda floor t (take n ids) l }
+fn stays(link: &Link, micros: &[DbMicro], lambda: f64, floor: f64, t: f64) -> bool
+    ensures { result ≡ link_stays lambda floor t micros.now link.now }
 {
-    let lo = l.lo;
-    let hi = l.hi;
-    if is_among(ids, n, lo) {
-        if is_among(ids, n, hi) {
-            return !(model::faded(l.value, lambda, t, l.last) < floor);
-        }
-    }
-    false
+    is_held(micros, link.lo)
+        && is_held(micros, link.hi)
+        && !(model::faded(link.value, lambda, t, link.last) < floor)
 }
 
-// The links that lost no end and did not fade below floor, in order; ids are those of the micro-clusters left.
-pub fn retained(
-    mut links: [Link; LINKS],
-    count: usize,
-    ids: [MicroId; MICROS],
-    n: usize,
-    lambda: f64,
-    floor: f64,
-    t: f64,
-) -> Links
-    ensures { links_told result ≡ links_of (retain (stays_among lambda floor t (take n ids)) (take count links)) }
+// Keeps in front, in order, the links that lost no end and did not fade below floor, and counts them; micros are those left.
+pub fn retained(links: &mut [Link], micros: &[DbMicro], lambda: f64, floor: f64, t: f64) -> usize
+    ensures kept { take result links.new ≡ retain (link_stays lambda floor t micros.now) links.old }
+    ensures few { result ≤ length links.old }
 {
-    let m = lists::cut(count, LINKS);
-    let mut i = 0;
-    let mut j = 0;
-    while i < m {
-        let l = links[i];
-        if stays(l, ids, n, lambda, floor, t) {
-            links[j] = l;
-            j += 1;
-        }
-        i += 1;
-    }
-    Links { links, count: j }
+    lists::retain(links, |link| stays(link, micros, lambda, floor, t))
 }

@@ -1,2 +1,0 @@
--- The loops that search a list.
-pub mod Searches

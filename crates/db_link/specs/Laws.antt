@@ -1,2 +1,0 @@
--- What follows from the definitions, for proofs.
-pub mod Among
