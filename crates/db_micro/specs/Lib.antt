@@ -1,3 +1,2 @@
--- Micro-clusters in an array: what is held of them, and how they are listed.
+-- Micro-clusters in an array: what is held of them.
 pub mod Held
-pub mod Listed

@@ -1,10 +1,8 @@
-// DBSTREAM's micro-clusters: an array of 64 and a count. What is read out of them, and what a cleanup leaves.
+// DBSTREAM's micro-clusters: what is read out of them, and what a cleanup leaves.
 #![tactic(auto)]
 
 mod cleanup;
-mod identity;
-mod weight;
+mod parts;
 
-pub use cleanup::{Micros, retained};
-pub use identity::{bodies, ids_of};
-pub use weight::strong_ones;
+pub use cleanup::retained;
+pub use parts::{bodies, ids_of, strong_ones};

@@ -1,0 +1,44 @@
+// Single parts of the micro-clusters, in the order of the list.
+ghost use Rattle.std.specs.Prelude.{◌≡◌, length, map, take};
+ghost use Rattle.db_micro.specs.Held.{body_of, Says, reaches};
+ghost use Rattle.model.specs.DbInsert.{id_of};
+
+use model::{Body, DbMicro, MICROS, MicroId};
+
+// What `part` says of each.
+fn each<T: Copy, F: Fn(&DbMicro) -> T>(micros: &[DbMicro], none: T, part: F) -> [T; MICROS]
+    requires { F.IsAlwaysCallable part }
+    ensures { (f : DbMicro → T) → Says F.Fn part f → take (length micros.now) result ≡ map f (take MICROS micros.now) }
+{
+    let mut all = [none; MICROS];
+    let held = &micros[..micros.len().min(MICROS)];
+    for (i, m) in held.iter().enumerate() {
+        all[i] = part(m);
+    }
+    all
+}
+
+// The creation numbers.
+pub fn ids_of(micros: &[DbMicro]) -> [MicroId; MICROS]
+    ensures { take (length micros.now) result ≡ map id_of (take MICROS micros.now) }
+{
+    each(micros, MicroId(0), |m| m.id)
+}
+
+// What both streams keep of each.
+pub fn bodies(micros: &[DbMicro]) -> [Body; MICROS]
+    ensures { take (length micros.now) result ≡ map body_of (take MICROS micros.now) }
+{
+    each(micros, Body::new(), |m| m.body)
+}
+
+// Which faded weights reach min_weight.
+pub fn strong_ones(micros: &[DbMicro], lambda: f64, t: f64, min_weight: f64) -> [bool; MICROS]
+    ensures { take (length micros.now) result ≡ map (reaches lambda t min_weight) (take MICROS micros.now) }
+{
+    each(
+        micros,
+        false,
+        |m| min_weight <= m.body.faded_weight(lambda, t),
+    )
+}
