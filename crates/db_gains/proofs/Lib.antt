@@ -1,3 +1,2 @@
--- What the proofs of `src/` cite, on plain lists and numbers.
-pub mod Passes
+-- What only the proofs here use.
 pub mod Walks

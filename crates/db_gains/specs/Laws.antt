@@ -1,5 +1,3 @@
 -- What follows from the definitions, for proofs.
 pub mod Factor
 pub mod Passed
-pub mod Walking
-pub mod Passing

@@ -4,30 +4,31 @@ ghost use Rattle.db_gains.specs.Factor.{factor_of, same_bits, since_of};
 
 // How much is left at the clock of the insert of what was there at last.
 #[derive(Clone, Copy)]
-pub struct Factor {
-    pub last: f64,
-    pub fade: f64,
+pub(crate) struct Factor {
+    pub(crate) last: f64,
+    pub(crate) fade: f64,
 }
 
 impl Factor {
     // The fade from last to t, with the clock that it is from.
-    pub fn new(lambda: f64, t: f64, last: f64) -> Factor
+    pub(crate) fn new(lambda: f64, t: f64, last: f64) -> Self
         ensures { result ≡ factor_of lambda t last }
     {
-        Factor {
+        Self {
             last,
             fade: feature::fade(lambda, t, last),
         }
     }
 
-    // The factor from last: this one, where it is from there too.
-    pub fn since(self, lambda: f64, t: f64, last: f64) -> Factor
-        ensures { result ≡ since_of lambda t self last }
+    // The fade from last: the one kept, where it is from there too.
+    pub(crate) fn since(&mut self, lambda: f64, t: f64, last: f64) -> f64
+        ensures kept { self.new ≡ since_of lambda t self.old last }
+        ensures fade { result ≡ self.new.fade }
     {
-        if is_same(self.last, last) {
-            return self;
+        if !is_same(self.last, last) {
+            *self = Factor::new(lambda, t, last);
         }
-        Factor::new(lambda, t, last)
+        self.fade
     }
 }
 
@@ -35,11 +36,5 @@ impl Factor {
 fn is_same(a: f64, b: f64) -> bool
     ensures { result ≡ same_bits a b }
 {
-    if a != a {
-        return false;
-    }
-    if b != b {
-        return false;
-    }
-    f64::to_bits(a) == f64::to_bits(b)
+    !a.is_nan() && !b.is_nan() && a.to_bits() == b.to_bits()
 }

@@ -2,7 +2,7 @@
 #![tactic(auto)]
 
 mod factor;
-mod pass;
+mod pairs;
 mod walk;
 
-pub use pass::{Pass, Step};
+pub use pairs::gain_pairs;

@@ -1,62 +1,105 @@
-// The walk through the pairs of neighbours and through the links at once.
-ghost use Rattle.std.specs.Prelude.{◌≡◌};
-ghost use Rattle.db_gains.specs.Walk.{first_of, walk_to, next_of};
+// A link gains: it is looked for from where the last one was found.
+ghost use Rattle.std.specs.Prelude.{◌≡◌, ◌+◌, ◌-◌, ◌<◌, ◌≤◌, ◌++◌, ◌∷◌, length, take, drop};
+ghost use Rattle.std.specs.List.{prefix_len};
+ghost use Rattle.model.specs.DbInsert.{before, gain_in, has_room};
+ghost use Rattle.db_gains.specs.Factor.{factor_of, gains_by};
+ghost use Rattle.db_gains.specs.Walk.{Ready};
+ghost use Rattle.db_gains.specs.Laws.Passed.{Passed};
 
-use db_link::{is_before, key_of};
-use model::{Link, MICROS, MicroId};
+use crate::factor::Factor;
+use db_link::{is_before, same_ends};
+use model::{LINKS, Link, MicroId};
 
-// The pair at places i and j, its link before any gain, and how many links at the front are known to stand before that.
+// The links before `at` are known to stand before `key`; `factor` is kept from the last gain for the next.
 #[derive(Clone, Copy)]
-pub struct Walk {
-    pub i: usize,
-    pub j: usize,
-    pub p: usize,
-    pub key: Link,
+pub(crate) struct Walk {
+    pub(crate) at: usize,
+    pub(crate) key: Link,
+    pub(crate) factor: Factor,
+}
+
+// How many links at the front stand before the key.
+fn passed(links: &[Link], key: &Link) -> usize
+    ensures { result ≡ prefix_len (λ l. before l key.now) links.now }
+{
+    links.iter().take_while(|l| is_before(l, key)).count()
+}
+
+// l faded to t, with 1 more.
+fn gained(l: Link, fade: f64, t: f64) -> Link
+    ensures { result ≡ gains_by fade t l }
+{
+    Link {
+        value: l.value * fade + 1.0,
+        last: t,
+        ..l
+    }
+}
+
+// Puts a link at a place; those from there on move up by one, and the last is lost.
+fn insert(links: &mut [Link], at: usize, link: Link)
+    requires { at < length links.old }
+    ensures { links.new ≡ take at links.old ++ link ∷ drop at (take (length links.old - 1) links.old) }
+{
+    links[at..].rotate_right(1);
+    links[at] = link;
 }
 
 impl Walk {
-    // The first pair, at the front of the links.
-    pub fn first(ids: [MicroId; MICROS], t: f64) -> Walk
-        ensures { result ≡ first_of ids t }
+    // At the front.
+    pub(crate) fn new(lambda: f64, t: f64) -> Self
+        ensures front { result.at ≡ 0 }
+        ensures factor { result.factor ≡ factor_of lambda t t }
     {
-        let a = ids[0];
-        let b = ids[1];
-        Walk {
-            i: 0,
-            j: 1,
-            p: 0,
-            key: key_of(a, b, t),
+        let id = MicroId(0);
+        Self {
+            at: 0,
+            key: db_link::key_of(id, id, t),
+            factor: Factor::new(lambda, t, t),
         }
     }
 
-    // The pair after this one of the first k; where none is left, j is k or more.
-    pub fn next(self, ids: [MicroId; MICROS], k: usize, t: f64) -> Walk
-        ensures { result ≡ next_of ids k t self }
+    // To the first link that does not stand before the key. Those passed stand before the old key, so before a new one too that is not smaller.
+    fn seek(&mut self, links: &[Link], key: Link)
+        requires place { self.old.at ≤ length links.now }
+        requires passed { Passed self.old.key (take self.old.at links.now) }
+        ensures { self.new ≡ record { at = prefix_len (λ l. before l key) links.now; key = key; factor = self.old.factor } }
     {
-        let i = lists::cut(self.i, MICROS);
-        let j = lists::cut(self.j, MICROS) + 1;
-        if j < k {
-            return self.to(ids, t, i, j);
+        if is_before(&key, &self.key) {
+            self.at = 0;
         }
-        self.to(ids, t, i + 1, i + 1 + 1)
+        self.at += passed(&links[self.at..], &key);
+        self.key = key;
     }
 
-    // The links passed stand before the old key, so before a new one too that is not smaller.
-    fn to(self, ids: [MicroId; MICROS], t: f64, i: usize, j: usize) -> Walk
-        ensures { result ≡ walk_to ids t self i j }
+    // The key's link gains, or a new one goes to its place, where there is room; how many there are now.
+    pub(crate) fn gain(
+        &mut self,
+        links: &mut [Link; LINKS],
+        count: usize,
+        key: Link,
+        lambda: f64,
+        t: f64,
+    ) -> usize
+        requires ready { Ready lambda t self.old (take count links.old) }
+        requires few { count ≤ LINKS }
+        ensures ready { Ready lambda t self.new (take result links.new) }
+        ensures few { result ≤ LINKS }
+        ensures gained { take result links.new ≡ gain_in lambda t (has_room (take count links.old)) key (take count links.old) }
     {
-        let a = ids[lists::cut(i, MICROS - 1)];
-        let b = ids[lists::cut(j, MICROS - 1)];
-        let key = key_of(a, b, t);
-        let old = self.key;
-        if is_before(key, old) {
-            return Walk { i, j, p: 0, key };
+        self.seek(&links[..count], key);
+        let at = self.at;
+        if at < count && same_ends(&links[at], &key) {
+            let link = links[at];
+            let fade = self.factor.since(lambda, t, link.last);
+            links[at] = gained(link, fade, t);
+            return count;
         }
-        Walk {
-            i,
-            j,
-            p: self.p,
-            key,
+        if count == LINKS {
+            return count;
         }
+        let fade = feature::fade(lambda, t, key.last);
+        insert(&mut links[..count + 1], at, gained(key, fade, t));
+        count + 1
     }
 }

@@ -1,0 +1,100 @@
+-- `gain` meets its contract. Assumes nothing.
+use Rattle.std.proofs.Common.{◌≡◌, ◌+◌, ◌<◌, ◌≤◌, refl, sym, ap, subst, ◌∙◌, ◌++◌, length, take, drop, set, arith, length-take-le, length-set}
+use Rattle.std.proofs.Math.Seq.{take-take}
+use Rattle.std.proofs.lemmas.List.{take-set-le}
+use Rattle.db_gains.specs.declared.walk.Walk.{Walk}
+use Rattle.db_gains.specs.declared.factor.Factor.{Factor}
+use Rattle.db_gains.specs.Factor.{Right, factor_of}
+use Rattle.db_gains.specs.Laws.Factor.{gain_by, since_right}
+use Rattle.db_gains.specs.Walk.{Ready}
+use Rattle.db_gains.proofs.Walks.{at_place, front_most, ready_there, gained_there, gained_full, gained_new, ready_new}
+use Rattle.db_gains.proofs.walk.Walk.gain.Goals.{else-at-count-via-then-at-count+else-same_ends, else-at-count-via-else-at-count}
+use Rattle.db_gains.proofs.walk.Walk.gain.Goals as goal
+
+pub returns-then-same_ends-clause-ready : goal.returns-then-same_ends-clause-ready
+returns-then-same_ends-clause-ready c =
+    let a = c.args in
+    let xs = a.links.now in
+    let n = a.count in
+    let at = c.seek.new.self.at in
+    let fits : n ≤ length xs = omega (arith, c.told-links, c.requires.few) in
+    let v = c.gained.result in
+    let h : at < n = c.if-at-count.true in
+    let long : at ≤ length (take n (set xs at v)) = omega (arith, h, length-take-le n (set xs at v) (omega (arith, fits, length-set xs at v))) in
+    let low : at ≤ n = omega (arith, h) in
+    let f = c.since-fade.new.self in
+    let kept : f ≡ factor_of a.lambda a.t _ =
+    c.since-fade.ensures.kept ∙ since_right a.lambda a.t c.seek.new.self.factor _ (subst (λ (w : Walk). Right a.lambda a.t w.factor) (sym c.seek.ensures) c.requires.ready.right) in
+    at_place (λ (w : Walk). Ready a.lambda a.t (record { at = w.at; key = w.key; factor = f }) (take n (set xs at v))) c.seek.ensures
+    (ready_there a.key a.lambda a.t n xs at fits (ap (λ (w : Walk). w.at) c.seek.ensures) (take n (set xs at v)) f long
+    (take-take at n (set xs at v) low ∙ take-set-le at xs at v (omega arith) ∙ sym (take-take at n xs low))
+    (kept ∙ ap (factor_of a.lambda a.t) (sym (ap (λ (g : Factor). g.last) kept))))
+
+pub returns-then-same_ends-clause-gained : goal.returns-then-same_ends-clause-gained
+returns-then-same_ends-clause-gained c =
+    let a = c.args in
+    let fits : a.count ≤ length a.links.now = omega (arith, c.told-links, c.requires.few) in
+    let kept : c.since-fade.new.self ≡ factor_of a.lambda a.t _ =
+    c.since-fade.ensures.kept ∙ since_right a.lambda a.t c.seek.new.self.factor _ (subst (λ (w : Walk). Right a.lambda a.t w.factor) (sym c.seek.ensures) c.requires.ready.right) in
+    gained_there a.key a.lambda a.t a.count a.links.now c.seek.new.self.at fits (ap (λ (w : Walk). w.at) c.seek.ensures) _ _ c.gained.result c.if-at-count.true
+    (sym c.same_ends.ensures ∙ c.if-same_ends.true)
+    (c.gained.ensures ∙ gain_by a.lambda a.t c.since-fade.result _ (c.since-fade.ensures.fade ∙ ap (λ (g : Factor). g.fade) kept))
+
+pub returns-then-count-eq-LINKS-clause-ready : goal.returns-then-count-eq-LINKS-clause-ready
+returns-then-count-eq-LINKS-clause-ready c =
+    let a = c.args in
+    let xs = a.links.now in
+    let fits : a.count ≤ length xs = omega (arith, c.told-links, c.requires.few) in
+    let found = ap (λ (w : Walk). w.at) c.seek.ensures in
+    let low : c.seek.new.self.at ≤ length (take a.count xs) = omega (arith, found, front_most a.key (take a.count xs)) in
+    at_place (λ (w : Walk). Ready a.lambda a.t w (take a.count xs)) c.seek.ensures
+    (ready_there a.key a.lambda a.t a.count xs c.seek.new.self.at fits found (take a.count xs) a.self.now.factor low refl c.requires.ready.right)
+
+pub returns-then-count-eq-LINKS-clause-gained : goal.returns-then-count-eq-LINKS-clause-gained
+returns-then-count-eq-LINKS-clause-gained c =
+    let a = c.args in
+    let fits : a.count ≤ length a.links.now = omega (arith, c.told-links, c.requires.few) in
+    gained_full a.key a.lambda a.t a.count a.links.now c.seek.new.self.at fits (ap (λ (w : Walk). w.at) c.seek.ensures) _
+    (elim c.else-at-count.branch [
+      | else-at-count-via-then-at-count+else-same_ends w ↦ λ h. sym w.same_ends.ensures ∙ w.if-same_ends.false
+      | else-at-count-via-else-at-count w ↦ λ h. absurd (omega (arith, h, w.if-at-count.false))
+    ])
+    (omega (arith, c.if-count-eq-LINKS.true))
+
+pub insert-requires : goal.insert-requires
+insert-requires c =
+    let a = c.args in
+    let xs = a.links.now in
+    let fits : a.count ≤ length xs = omega (arith, c.told-links, c.requires.few) in
+    let all : a.count + 1 ≤ length xs = omega (arith, c.told-links, c.requires.few, c.if-count-eq-LINKS.false) in
+    omega (
+      arith,
+      length-take-le (a.count + 1) xs all,
+      length-take-le a.count xs fits,
+      ap (λ (w : Walk). w.at) c.seek.ensures,
+      front_most a.key (take a.count xs),
+    )
+
+pub returns-clause-ready : goal.returns-clause-ready
+returns-clause-ready c =
+    let a = c.args in
+    let xs = a.links.now in
+    let fits : a.count ≤ length xs = omega (arith, c.told-links, c.requires.few) in
+    let all : a.count + 1 ≤ length xs = omega (arith, c.told-links, c.requires.few, c.if-count-eq-LINKS.false) in
+    at_place (λ (w : Walk). Ready a.lambda a.t w (take (a.count + 1) (c.insert.new.links ++ drop (a.count + 1) xs))) c.seek.ensures
+    (ready_new a.key a.lambda a.t a.count xs c.seek.new.self.at fits (ap (λ (w : Walk). w.at) c.seek.ensures) (take (a.count + 1) xs) c.insert.new.links _ c.gained-2.result
+    (omega (arith, all, c.told-links)) all refl c.insert.ensures a.self.now.factor c.requires.ready.right)
+
+pub returns-clause-gained : goal.returns-clause-gained
+returns-clause-gained c =
+    let a = c.args in
+    let xs = a.links.now in
+    let fits : a.count ≤ length xs = omega (arith, c.told-links, c.requires.few) in
+    let all : a.count + 1 ≤ length xs = omega (arith, c.told-links, c.requires.few, c.if-count-eq-LINKS.false) in
+    gained_new a.key a.lambda a.t a.count xs c.seek.new.self.at fits (ap (λ (w : Walk). w.at) c.seek.ensures)
+    (take (a.count + 1) xs) c.insert.new.links _ c.gained-2.result (omega (arith, all, c.told-links)) all refl c.insert.ensures _
+    (elim c.else-at-count.branch [
+      | else-at-count-via-then-at-count+else-same_ends w ↦ λ h. sym w.same_ends.ensures ∙ w.if-same_ends.false
+      | else-at-count-via-else-at-count w ↦ λ h. absurd (omega (arith, h, w.if-at-count.false))
+    ])
+    (c.gained-2.ensures ∙ gain_by a.lambda a.t c.fade-fade.result a.key c.fade-fade.ensures.value)

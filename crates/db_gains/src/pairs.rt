@@ -1,0 +1,52 @@
+// Every pair of neighbours gains, in one pass over the links while the pairs' links ascend.
+ghost use Rattle.std.specs.Prelude.{◌≡◌, ◌≤◌, map, take};
+ghost use mathlib.Core.List.{foldl};
+ghost use Rattle.model.specs.DbInsert.{gain_of, pair_of, pairs_of};
+ghost use Rattle.db_gains.specs.Walk.{Ready};
+
+use crate::walk::Walk;
+use db_link::key_of;
+use model::{LINKS, Link, MicroId};
+
+impl Walk {
+    // Each pair of a and one of the others.
+    fn gain_row(
+        &mut self,
+        links: &mut [Link; LINKS],
+        mut count: usize,
+        a: MicroId,
+        others: &[MicroId],
+        lambda: f64,
+        t: f64,
+    ) -> usize
+        requires ready { Ready lambda t self.old (take count links.old) }
+        requires few { count ≤ LINKS }
+        ensures ready { Ready lambda t self.new (take result links.new) }
+        ensures few { result ≤ LINKS }
+        ensures gained { take result links.new ≡ foldl (gain_of lambda t) (take count links.old) (map (pair_of a) others.now) }
+    {
+        for b in others {
+            count = self.gain(links, count, key_of(a, *b, t), lambda, t);
+        }
+        count
+    }
+}
+
+// The first `count` links gain by each pair of the neighbours ids; how many there are then.
+pub fn gain_pairs(
+    links: &mut [Link; LINKS],
+    mut count: usize,
+    ids: &[MicroId],
+    lambda: f64,
+    t: f64,
+) -> usize
+    ensures gained { take result links.new ≡ foldl (gain_of lambda t) (take count links.old) (pairs_of ids.now) }
+    ensures few { result ≤ LINKS }
+{
+    let mut walk = Walk::new(lambda, t);
+    count = count.min(LINKS);
+    for (i, a) in ids.iter().enumerate() {
+        count = walk.gain_row(links, count, *a, &ids[i + 1..], lambda, t);
+    }
+    count
+}
