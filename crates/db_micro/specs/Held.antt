@@ -1,8 +1,5 @@
 -- The micro-clusters that an array holds, and parts of them. Definitions only.
-use Rattle.std.specs.Prelude.{◌≡◌, ℕ, Bool, List, map, Float, take}
-use Rattle.std.specs.Fn.{FnReturnsAt}
-use denote.Param.Members.{Shared}
-use denote.Ref.{Bor}
+use Rattle.std.specs.Prelude.{ℕ, Bool, List, map, Float, take}
 use Rattle.std.specs.Float.Ieee.{le}
 use Rattle.model.specs.declared.body.Body.{Body}
 use Rattle.model.specs.declared.micro.DbMicro.{DbMicro}
@@ -22,7 +19,3 @@ body_of m = m.body
 -- "strong means faded weight ≥ min_weight"
 abbrev pub reaches : (lambda t weight : Float) → DbMicro → Bool
 reaches lambda t weight m = le weight (faded_weight lambda t m.body)
-
--- what `part` answers at a micro-cluster is what f says of it
-abbrev pub Says : {F T : Type 0} → Shared F (Bor DbMicro × Unit {0}) T → F → (DbMicro → T) → Type 0
-Says {F} {T} g part f = (m : DbMicro) (v : T) → FnReturnsAt g part m v → v ≡ f m

@@ -1,14 +1,15 @@
 // Single parts of the micro-clusters, in the order of the list.
 ghost use Rattle.std.specs.Prelude.{◌≡◌, length, map, take};
-ghost use Rattle.db_micro.specs.Held.{body_of, Says, reaches};
+ghost use Rattle.lists.specs.Retain.{AnswersBy};
+ghost use Rattle.db_micro.specs.Held.{body_of, reaches};
 ghost use Rattle.model.specs.DbInsert.{id_of};
 
 use model::{Body, DbMicro, MICROS, MicroId};
 
 // What `part` says of each.
-fn each<T: Copy, F: Fn(&DbMicro) -> T>(micros: &[DbMicro], none: T, part: F) -> [T; MICROS]
+pub fn each<T: Copy, F: Fn(&DbMicro) -> T>(micros: &[DbMicro], none: T, part: F) -> [T; MICROS]
     requires { F.IsAlwaysCallable part }
-    ensures { (f : DbMicro → T) → Says F.Fn part f → take (length micros.now) result ≡ map f (take MICROS micros.now) }
+    ensures { (f : DbMicro → T) → AnswersBy F.Fn part f → take (length micros.now) result ≡ map f (take MICROS micros.now) }
 {
     let mut all = [none; MICROS];
     let held = &micros[..micros.len().min(MICROS)];

@@ -1,5 +1,5 @@
 -- The micro-clusters with a point, by what the scan for it found. Definitions only.
-use Rattle.std.specs.Prelude.{ℕ, ◌+◌, ◌%◌, ◌^◌, Bool, cond, not, ◌||◌, List, [], ◌∷◌, ◌++◌, length, take, ◌==◌, nat_lt, Float}
+use Rattle.std.specs.Prelude.{ℕ, ◌+◌, ◌%◌, ◌^◌, Bool, cond, not, ◌||◌, List, [], ◌∷◌, ◌++◌, take, ◌==◌, nat_lt, Float}
 use Rattle.float.specs.Rounded.{◌⊗◌}
 use Rattle.feature.specs.Feature.{max_dim}
 use Rattle.model.specs.declared.micro.MicroId.{MicroId}
@@ -7,7 +7,6 @@ use Rattle.model.specs.declared.micro.DbMicro.{DbMicro}
 use Rattle.model.specs.Limits.{micros_most}
 use Rattle.model.specs.DbInsert.{newborn, absorbs}
 use Rattle.db_neighbours.specs.declared.scan.Scan.{Scan}
-use Rattle.db_neighbours.specs.declared.absorption.Placed.{Placed}
 use Rattle.db_neighbours.specs.Near.{absorb_near}
 
 -- "With none, a new one goes to the end, with the next creation number", where there is a place; "Otherwise each neighbour fades to t and absorbs the point"
@@ -20,16 +19,6 @@ placed_among f r lambda t next x n ms =
 -- creation numbers are 64 bits wide
 abbrev pub next_after : Scan → (n : ℕ) → MicroId → MicroId
 next_after f n next = cond (f.count == 0) (cond (nat_lt n micros_most) (record { 0 = (next.0 + 1) % 2 ^ 64 }) next) next
-
--- the micro-clusters, their number and the next creation number
-abbrev pub placed_of : Scan → (r lambda t : Float) → MicroId → List Float → (n : ℕ) → List DbMicro → Placed
-placed_of f r lambda t next x n ms =
-    let all : List DbMicro = placed_among f r lambda t next x n ms in
-    record { micros = all; count = length all; next_id = next_after f n next }
-
--- nothing of the places past the count
-abbrev pub placed_told : Placed → Placed
-placed_told p = record { micros = take p.count p.micros; count = p.count; next_id = p.next_id }
 
 -- "Would the point be absorbed, or are fewer than 64 micro-clusters held?"
 abbrev pub has_place_by : Scan → (held : ℕ) → Bool

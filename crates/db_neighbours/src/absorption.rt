@@ -1,82 +1,78 @@
 // How a point joins the micro-clusters.
-ghost use Rattle.std.specs.Prelude.{◌≡◌, take};
+ghost use Rattle.std.specs.Prelude.{◌≡◌, ◌≤◌, take};
+ghost use Rattle.float.specs.Rounded.{◌⊗◌};
 ghost use Rattle.feature.specs.Feature.{max_dim};
 ghost use Rattle.model.specs.DbInsert.{absorbs};
 ghost use Rattle.model.specs.DbInsert as doc;
-ghost use Rattle.db_neighbours.specs.Placing.{placed_told, placed_of};
+ghost use Rattle.db_neighbours.specs.Near.{absorb_near};
+ghost use Rattle.db_neighbours.specs.Placing.{placed_among, next_after};
 
 use crate::scan::Scan;
-use feature::MAX_DIM;
 use model::{Body, DbMicro, MICROS, MicroId};
 
 // A micro-cluster that holds the point alone.
-fn newborn(x: [f64; MAX_DIM], dim: usize, t: f64, id: MicroId) -> DbMicro
-    ensures { result ≡ doc.newborn max_dim id t (take dim x) }
+fn newborn(x: &[f64], t: f64, id: MicroId) -> DbMicro
+    ensures { result ≡ doc.newborn max_dim id t x.now }
 {
     DbMicro {
-        body: Body::birth(x, dim, t),
+        body: Body::birth(x, t),
         id,
     }
 }
 
 // Faded to t, with the point.
-fn absorbed(m: DbMicro, x: [f64; MAX_DIM], dim: usize, lambda: f64, t: f64) -> DbMicro
-    ensures { result ≡ absorbs lambda t (take dim x) m }
+fn absorbed(m: DbMicro, x: &[f64], lambda: f64, t: f64) -> DbMicro
+    ensures { result ≡ absorbs lambda t x.now m }
 {
-    let old = m.body;
-    let id = m.id;
     DbMicro {
-        body: old.absorbing(x, dim, lambda, t),
-        id,
+        body: m.body.absorbing(x, lambda, t),
+        ..m
     }
 }
 
-// The micro-clusters after a point, how many they are, and the next creation number.
-#[derive(Clone, Copy)]
-pub struct Placed {
-    pub micros: [DbMicro; MICROS],
-    pub count: usize,
-    pub next_id: MicroId,
+// Those of the first `held` that are near absorb the point.
+fn absorb(
+    micros: &mut [DbMicro; MICROS],
+    held: usize,
+    distances: &[f64; MICROS],
+    x: &[f64],
+    r: f64,
+    lambda: f64,
+    t: f64,
+)
+    requires { held ≤ MICROS }
+    ensures { take held micros.new ≡ absorb_near (r ⊗ r) (absorbs lambda t x.now) (take held distances.now) (take held micros.old) }
+{
+    let r2 = r * r;
+    for i in 0..held {
+        if distances[i] <= r2 {
+            micros[i] = absorbed(micros[i], x, lambda, t);
+        }
+    }
 }
 
 // The neighbours that the scan found absorb the point; with none, a new one goes to the end, where there is a place.
 pub fn with_point(
-    mut micros: [DbMicro; MICROS],
-    n: usize,
-    next_id: MicroId,
-    scan: Scan,
-    x: [f64; MAX_DIM],
-    dim: usize,
+    micros: &mut [DbMicro; MICROS],
+    count: &mut usize,
+    next_id: &mut MicroId,
+    scan: &Scan,
+    x: &[f64],
     r: f64,
     lambda: f64,
     t: f64,
-) -> Placed
-    ensures { placed_told result ≡ placed_of scan r lambda t next_id (take dim x) n (take n micros) }
+)
+    ensures micros { take count.new micros.new ≡ placed_among scan.now r lambda t next_id.old x.now count.old (take count.old micros.old) }
+    ensures count { count.new ≤ MICROS }
+    ensures next { next_id.new ≡ next_after scan.now count.old next_id.old }
 {
-    let held = lists::cut(n, MICROS);
-    let mut count = held;
-    let mut next = next_id;
-    if scan.count == 0 {
-        if held < MICROS {
-            micros[held] = newborn(x, dim, t, next_id);
-            count = held + 1;
-            next = MicroId(std::num::wrapping_add_u64(next_id.0, 1));
-        }
-    } else {
-        let ds = scan.distances;
-        let r2 = r * r;
-        let mut i: usize = 0;
-        while i < held {
-            if ds[i] <= r2 {
-                let m = micros[i];
-                micros[i] = absorbed(m, x, dim, lambda, t);
-            }
-            i += 1;
-        }
-    }
-    Placed {
-        micros,
-        count,
-        next_id: next,
+    let held = (*count).min(MICROS);
+    *count = held;
+    if scan.count != 0 {
+        absorb(micros, held, &scan.distances, x, r, lambda, t);
+    } else if held < MICROS {
+        micros[held] = newborn(x, t, *next_id);
+        *count = held + 1;
+        *next_id = MicroId(next_id.0.wrapping_add(1));
     }
 }

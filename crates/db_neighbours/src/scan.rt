@@ -1,6 +1,11 @@
 // What a point meets.
-ghost use Rattle.std.specs.Prelude.{◌≡◌, take};
-ghost use Rattle.db_micro.specs.Held.{held};
+ghost use Rattle.std.specs.Prelude.{◌≡◌, ◌≤◌, List, map, length, take, Float};
+ghost use Rattle.std.specs.Float.Ieee.{le};
+ghost use Rattle.lists.specs.Retain.{retain};
+ghost use Rattle.model.specs.declared.micro.DbMicro.{DbMicro};
+ghost use Rattle.model.specs.Body.{distance_to};
+ghost use Rattle.model.specs.DbInsert.{id_of};
+ghost use Rattle.db_micro.specs.Held.{cut_to, held};
 ghost use Rattle.db_neighbours.specs.Placing.{has_place_by};
 ghost use Rattle.db_neighbours.specs.Scanned.{scan_told, scan_of};
 
@@ -18,42 +23,58 @@ pub struct Scan {
 }
 
 impl Scan {
-    // Whether the point would be absorbed, or fewer than 64 micro-clusters are held.
-    pub fn has_place(self, held: usize) -> bool
-        ensures { result ≡ has_place_by self held }
+    // The neighbours' creation numbers.
+    pub fn neighbours(&self) -> &[MicroId]
+        ensures { result.now ≡ take self.now.count self.now.ids }
     {
-        if self.count == 0 { held < MICROS } else { true }
+        &self.ids[..self.count.min(MICROS)]
+    }
+
+    // Whether the point would be absorbed, or fewer than 64 micro-clusters are held.
+    pub fn has_place(&self, held: usize) -> bool
+        ensures { result ≡ has_place_by self.now held }
+    {
+        self.count != 0 || held < MICROS
     }
 }
 
-// One pass, before anything changes, measures what the neighbourhood and the drift monitor need.
-pub fn scan_for(micros: [DbMicro; MICROS], n: usize, x: [f64; MAX_DIM], dim: usize, r: f64) -> Scan
-    ensures { scan_told n result ≡ scan_of r (take dim x) (held dim n micros) }
+// How far the point is from the mean.
+fn distance(m: &DbMicro, x: &[f64], dim: usize) -> f64
+    ensures { result ≡ distance_to x.now (cut_to dim m.now).body }
 {
-    let end = lists::cut(n, MICROS);
-    let r2 = r * r;
-    let mut distances = [0.0; MICROS];
+    sq_euclidean(&m.body.cf.mean[..dim.min(MAX_DIM)], x)
+}
+
+// The creation numbers of those at most r2 away, and how many they are.
+fn near_ids(micros: &[DbMicro], distances: &[f64; MICROS], r2: f64) -> ([MicroId; MICROS], usize)
+    requires { length micros.now ≤ MICROS }
+    ensures few { result.1 ≤ length micros.now }
+    ensures near { (d : DbMicro → Float) → take (length micros.now) distances.now ≡ map d micros.now
+        → take result.1 result.0 ≡ map id_of (retain (λ m. le (d m) r2) micros.now) }
+{
     let mut ids = [MicroId(0); MICROS];
-    let mut k: usize = 0;
-    let mut i: usize = 0;
-    while i < end {
-        let m = micros[i];
-        let cf = m.body.cf;
-        let mean = cf.mean;
-        let d = sq_euclidean(mean, x, dim);
-        distances[i] = d;
-        if d <= r2 {
-            let id = m.id;
-            ids[k] = id;
-            k += 1;
+    let mut count = 0;
+    for (i, m) in micros.iter().enumerate() {
+        if distances[i] <= r2 {
+            ids[count] = m.id;
+            count += 1;
         }
-        i += 1;
     }
-    let nearest = least(distances, n);
+    (ids, count)
+}
+
+// Before anything changes, this measures what the neighbourhood and the drift monitor need.
+pub fn scan_for(micros: &[DbMicro], x: &[f64], dim: usize, r: f64) -> Scan
+    ensures { scan_told (length micros.now) result ≡ scan_of r x.now (held dim MICROS micros.now) }
+{
+    let micros = &micros[..micros.len().min(MICROS)];
+    let distances = db_micro::each(micros, 0.0, |m| distance(m, x, dim));
+    let (ids, count) = near_ids(micros, &distances, r * r);
+    let nearest = least(&distances[..micros.len()]);
     Scan {
         distances,
         nearest,
         ids,
-        count: k,
+        count,
     }
 }
