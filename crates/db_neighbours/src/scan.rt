@@ -1,16 +1,15 @@
 // What a point meets.
-ghost use Rattle.std.specs.Prelude.{◌≡◌, ◌≤◌, List, map, length, take, Float};
+ghost use Rattle.std.specs.Prelude.{◌≡◌, ◌≤◌, min, map, length, take, Float};
 ghost use Rattle.std.specs.Float.Ieee.{le};
 ghost use Rattle.lists.specs.Retain.{retain};
 ghost use Rattle.model.specs.declared.micro.DbMicro.{DbMicro};
-ghost use Rattle.model.specs.Body.{distance_to};
 ghost use Rattle.model.specs.DbInsert.{id_of};
-ghost use Rattle.db_micro.specs.Held.{cut_to, held};
+ghost use Rattle.feature.specs.Feature.{max_dim};
+ghost use Rattle.db_micro.specs.Held.{held};
 ghost use Rattle.db_neighbours.specs.Placing.{has_place_by};
 ghost use Rattle.db_neighbours.specs.Scanned.{scan_told, scan_of};
 
 use crate::nearest::least;
-use feature::{MAX_DIM, sq_euclidean};
 use model::{DbMicro, MICROS, MicroId};
 
 // The distances, the least of them, and the neighbours' creation numbers, of which count are there.
@@ -38,13 +37,6 @@ impl Scan {
     }
 }
 
-// How far the point is from the mean.
-fn distance(m: &DbMicro, x: &[f64], dim: usize) -> f64
-    ensures { result ≡ distance_to x.now (cut_to dim m.now).body }
-{
-    sq_euclidean(&m.body.cf.mean[..dim.min(MAX_DIM)], x)
-}
-
 // The creation numbers of those at most r2 away, and how many they are.
 fn near_ids(micros: &[DbMicro], distances: &[f64; MICROS], r2: f64) -> ([MicroId; MICROS], usize)
     requires { length micros.now ≤ MICROS }
@@ -65,10 +57,10 @@ fn near_ids(micros: &[DbMicro], distances: &[f64; MICROS], r2: f64) -> ([MicroId
 
 // Before anything changes, this measures what the neighbourhood and the drift monitor need.
 pub fn scan_for(micros: &[DbMicro], x: &[f64], dim: usize, r: f64) -> Scan
-    ensures { scan_told (length micros.now) result ≡ scan_of r x.now (held dim MICROS micros.now) }
+    ensures { scan_told (length micros.now) result ≡ scan_of r x.now (held (min dim max_dim) MICROS micros.now) }
 {
     let micros = &micros[..micros.len().min(MICROS)];
-    let distances = db_micro::each(micros, 0.0, |m| distance(m, x, dim));
+    let distances = db_micro::each(micros, 0.0, |m| m.body.distance(x, dim));
     let (ids, count) = near_ids(micros, &distances, r * r);
     let nearest = least(&distances[..micros.len()]);
     Scan {
