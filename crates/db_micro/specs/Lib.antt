@@ -1,2 +1,3 @@
--- Micro-clusters in an array: what is held of them.
+-- Micro-clusters in an array: what is held of them, and its laws.
 pub mod Held
+pub mod Laws

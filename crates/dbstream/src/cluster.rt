@@ -25,8 +25,7 @@ impl DbStream {
         let n = self.count.min(MICROS);
         let settings = self.params.settings;
         let strong = db_micro::strong_ones(
-            self.micros,
-            n,
+            &self.micros[..n],
             settings.lambda,
             self.t,
             settings.min_weight,

@@ -1,5 +1,5 @@
 // What a DBSTREAM keeps, and what it says of itself; the crate db_readout has the rest.
-ghost use Rattle.std.specs.Prelude.{◌≡◌, length};
+ghost use Rattle.std.specs.Prelude.{◌≡◌, length, take};
 ghost use Rattle.drift.specs.Monitor.{report_of};
 ghost use Rattle.dbstream.specs.View.{view};
 
@@ -24,24 +24,37 @@ pub struct DbStream {
 
 impl DbStream {
     // The coordinates of a point.
-    pub fn dim(self) -> usize
-        ensures { result ≡ (view self).params.settings.dim }
+    pub fn dim(&self) -> usize
+        ensures { result ≡ (view self.now).params.settings.dim }
     {
-        lists::cut(self.params.settings.dim, MAX_DIM)
+        self.params.settings.dim.min(MAX_DIM)
     }
 
     // How many micro-clusters are held.
-    pub fn micro_count(self) -> usize
-        ensures { result ≡ length (view self).held.micros }
+    pub fn micro_count(&self) -> usize
+        ensures { result ≡ length (view self.now).held.micros }
     {
-        lists::cut(self.count, MICROS)
+        self.count.min(MICROS)
+    }
+
+    // The micro-clusters held.
+    pub fn held(&self) -> &[DbMicro]
+        ensures { result.now ≡ take self.now.count self.now.micros }
+    {
+        &self.micros[..self.count.min(MICROS)]
+    }
+
+    // The links held.
+    pub fn held_links(&self) -> &[Link]
+        ensures { result.now ≡ take self.now.link_count self.now.links }
+    {
+        &self.links[..self.link_count.min(LINKS)]
     }
 
     // The drift monitor's report.
-    pub fn drift(self) -> DriftReport
-        ensures { result ≡ report_of (view self).drift }
+    pub fn drift(&self) -> DriftReport
+        ensures { result ≡ report_of (view self.now).drift }
     {
-        let monitor = self.drift;
-        monitor.report()
+        self.drift.report()
     }
 }

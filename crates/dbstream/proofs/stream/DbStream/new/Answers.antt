@@ -6,12 +6,12 @@ use Rattle.dbstream.specs.View.{view}
 use Rattle.dbstream.proofs.Openings.{opened}
 use Rattle.dbstream.proofs.stream.DbStream.new.Goals as goal
 
-pub returns-then-is_open : goal.returns-then-is_open
+pub returns-then-is_ok : goal.returns-then-is_ok
 unfolding asked
-returns-then-is_open c =
+returns-then-is_ok c =
     let p = c.args.settings in
     let answer = c.asked-answer in
-    let opens = sym c.is_open.ensures ∙ c.if-is_open.true in let all = opened p answer.result true (view c.fresh-stream.result) answer.ensures opens
+    let opens = sym c.is_ok.ensures ∙ c.if-is_ok.true in let all = opened p answer.result true (view c.fresh-stream.result) answer.ensures opens
     c.fresh-stream.ensures in record { result_value = all.0; said = all.1 }
 
 pub returns : goal.returns
@@ -19,5 +19,5 @@ unfolding asked
 returns c =
     let p = c.args.settings in
     let answer = c.asked-answer in
-    let stays = sym c.is_open.ensures ∙ c.if-is_open.false in let all = opened p answer.result false (view c.fresh-stream-2.result) answer.ensures
+    let stays = sym c.is_ok.ensures ∙ c.if-is_ok.false in let all = opened p answer.result false (view c.fresh-stream-2.result) answer.ensures
     stays c.fresh-stream-2.ensures in record { result_value = all.0; said = all.1 }
