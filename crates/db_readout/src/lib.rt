@@ -12,37 +12,30 @@ ghost use Rattle.dbstream.specs.View.{view};
 
 pub use connected::connectivity;
 use dbstream::DbStream;
-use model::{ShapeError, TooShort};
+use model::{ShapeError, Stream, TooShort};
 
 // The labels of the last cluster, into a lent slice; none after an insert.
-pub fn labels(stream: DbStream, out: &mut [i64]) -> Result<(), TooShort>
-    ensures { labels_told result out.new ≡ labels_read_of (view stream) out.old }
+pub fn labels(stream: &DbStream, out: &mut [i64]) -> Result<(), TooShort>
+    ensures { labels_told result out.new ≡ labels_read_of (view stream.now) out.old }
 {
-    let labels = stream.labels;
-    readout::read_labels(labels, stream.label_count, out)
+    readout::read_labels(stream.labels_told(), out)
 }
 
 // How many families these labels name.
-pub fn n_clusters(stream: DbStream) -> usize
-    ensures { result ≡ clusters_in (view stream).labels }
+pub fn n_clusters(stream: &DbStream) -> usize
+    ensures { result ≡ clusters_in (view stream.now).labels }
 {
-    let labels = stream.labels;
-    readout::n_clusters(labels, stream.label_count)
+    readout::n_clusters(stream.labels_told())
 }
 
 // The label of the nearest micro-cluster, if it is no farther than r.
-pub fn try_predict(stream: DbStream, x: &[f64]) -> Result<i64, ShapeError>
-    ensures { prediction_said result ≡ predict_of (view stream) x.now }
+pub fn try_predict(stream: &DbStream, x: &[f64]) -> Result<i64, ShapeError>
+    ensures { prediction_said result ≡ predict_of (view stream.now) x.now }
 {
-    let settings = stream.params.settings;
-    let micros = stream.micros;
-    let bodies = db_micro::bodies(micros, stream.count);
-    let labels = stream.labels;
+    let settings = &stream.params.settings;
     readout::predict(
-        bodies,
-        stream.count,
-        labels,
-        stream.label_count,
+        stream.held(),
+        stream.labels_told(),
         settings.r * settings.r,
         settings.dim,
         x,
@@ -51,20 +44,17 @@ pub fn try_predict(stream: DbStream, x: &[f64]) -> Result<i64, ShapeError>
 
 // The means one after another, the faded weights and the radii, into lent slices.
 pub fn micro_stats(
-    stream: DbStream,
+    stream: &DbStream,
     centres: &mut [f64],
     weights: &mut [f64],
     radii: &mut [f64],
 ) -> Result<(), TooShort>
     ensures { statistics_told result centres.new weights.new radii.new
-        ≡ statistics_of (view stream) centres.old weights.old radii.old }
+        ≡ statistics_of (view stream.now) centres.old weights.old radii.old }
 {
-    let settings = stream.params.settings;
-    let micros = stream.micros;
-    let bodies = db_micro::bodies(micros, stream.count);
+    let settings = &stream.params.settings;
     readout::statistics(
-        bodies,
-        stream.count,
+        stream.held(),
         settings.lambda,
         stream.t,
         settings.dim,

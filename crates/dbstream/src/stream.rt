@@ -1,5 +1,5 @@
 // What a DBSTREAM keeps, and what it says of itself; the crate db_readout has the rest.
-ghost use Rattle.std.specs.Prelude.{◌≡◌, length, take};
+ghost use Rattle.std.specs.Prelude.{◌≡◌, ◌≤◌, length, take};
 ghost use Rattle.drift.specs.Monitor.{report_of};
 ghost use Rattle.dbstream.specs.View.{view};
 
@@ -39,7 +39,8 @@ impl DbStream {
 
     // The micro-clusters held.
     pub fn held(&self) -> &[DbMicro]
-        ensures { result.now ≡ take self.now.count self.now.micros }
+        ensures value { result.now ≡ take self.now.count self.now.micros }
+        ensures few { length result.now ≤ MICROS }
     {
         &self.micros[..self.count.min(MICROS)]
     }

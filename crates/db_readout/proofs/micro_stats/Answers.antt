@@ -1,21 +1,22 @@
 -- `micro_stats` meets its contract. Assumes nothing.
-use Prim.Native.Nat.{min}
-use mathlib.Core.Path.{refl, ap, ◌∙◌}
-use mathlib.Core.List.{List}
+use Rattle.std.proofs.Common.{rules, ◌≡◌, refl, ap, sym, ◌∙◌, ◌≤◌, List, min, map, length, length-take, arith}
+use Rattle.std.proofs.lemmas.List.{take_all}
 use Rattle.feature.specs.Feature.{max_dim}
 use Rattle.model.specs.declared.body.Body.{Body}
+use Rattle.model.specs.declared.micro.DbMicro.{DbMicro}
+use Rattle.model.specs.Limits.{micros_most}
 use Rattle.model.specs.ReadOut.{statistics_read}
 use Rattle.readout.specs.Laws.Seen.{bodies_are}
-use Rattle.db_micro.specs.Held.{cut_to, body_of}
+use Rattle.db_micro.specs.Held.{cut_to}
 use Rattle.db_readout.proofs.micro_stats.Goals as goal
 
 pub returns : goal.returns
 returns c =
     let a = c.args in
-    let s = a.stream in
-    let bs = c.bodies-bodies in
-    let p = s.params.settings in
-    let d = min p.dim max_dim in
+    let s = a.stream.now in
+    let d = min s.params.settings.dim max_dim in
+    let ms = c.held.result.now in
     c.statistics.ensures
-    ∙ ap (λ (l : List Body). statistics_read p.lambda s.t l a.centres.now a.weights.now a.radii.now)
-    (bodies_are body_of (cut_to d) p.dim (λ m. refl) s.count bs.result s.micros bs.ensures)
+    ∙ ap (λ (l : List Body). statistics_read s.params.settings.lambda s.t l a.centres.now a.weights.now a.radii.now)
+    (bodies_are (λ (m : DbMicro). m.body) (cut_to d) s.params.settings.dim (λ m. refl) _
+    ∙ ap (λ (l : List DbMicro). map (λ (m : DbMicro). m.body) (map (cut_to d) l)) (take_all micros_most ms c.held.ensures.few ∙ c.held.ensures.value))

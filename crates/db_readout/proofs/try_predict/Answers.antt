@@ -1,23 +1,20 @@
 -- `try_predict` meets its contract. Assumes nothing.
-use Prim.Native.Nat.{min}
-use mathlib.Core.Path.{refl, ap, ◌∙◌}
-use mathlib.Core.List.{List}
-use lib.ListN.{take}
-use Rattle.float.specs.Rounded.{◌⊗◌}
+use Rattle.std.proofs.Common.{refl, ap, ap₂, ◌∙◌, List, ℤ, min, map}
 use Rattle.feature.specs.Feature.{max_dim}
 use Rattle.model.specs.declared.body.Body.{Body}
+use Rattle.model.specs.declared.micro.DbMicro.{DbMicro}
 use Rattle.model.specs.ReadOut.{predict_of}
+use Rattle.float.specs.Rounded.{◌⊗◌}
 use Rattle.readout.specs.Laws.Seen.{bodies_are}
-use Rattle.db_micro.specs.Held.{cut_to, body_of}
+use Rattle.db_micro.specs.Held.{cut_to}
 use Rattle.db_readout.proofs.try_predict.Goals as goal
 
 pub returns : goal.returns
 returns c =
-    let a = c.args in
-    let s = a.stream in
-    let bs = c.bodies-bodies in
-    let p = s.params.settings in
-    let d = min p.dim max_dim in
+    let s = c.args.stream.now in
+    let d = min s.params.settings.dim max_dim in
     c.predict.ensures
-    ∙ ap (λ (l : List Body). predict_of d (p.r ⊗ p.r) l (take s.label_count s.labels) a.x.now)
-    (bodies_are body_of (cut_to d) p.dim (λ m. refl) s.count bs.result s.micros bs.ensures)
+    ∙ ap₂ (λ (l : List Body) (k : List ℤ). predict_of d (s.params.settings.r ⊗ s.params.settings.r) l k c.args.x.now)
+    (bodies_are (λ (m : DbMicro). m.body) (cut_to d) s.params.settings.dim (λ m. refl) c.held.result.now
+    ∙ ap (λ (ms : List DbMicro). map (λ (m : DbMicro). m.body) (map (cut_to d) ms)) c.held.ensures.value)
+    c.labels_told.ensures
