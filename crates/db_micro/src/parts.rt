@@ -1,23 +1,10 @@
 // Single parts of the micro-clusters, in the order of the list.
 ghost use Rattle.std.specs.Prelude.{◌≡◌, length, map, take};
-ghost use Rattle.lists.specs.Retain.{AnswersBy};
 ghost use Rattle.db_micro.specs.Held.{body_of, reaches};
 ghost use Rattle.model.specs.DbInsert.{id_of};
 
+use lists::each;
 use model::{Body, DbMicro, MICROS, MicroId};
-
-// What `part` says of each.
-pub fn each<T: Copy, F: Fn(&DbMicro) -> T>(micros: &[DbMicro], none: T, part: F) -> [T; MICROS]
-    requires { F.IsAlwaysCallable part }
-    ensures { (f : DbMicro → T) → AnswersBy F.Fn part f → take (length micros.now) result ≡ map f (take MICROS micros.now) }
-{
-    let mut all = [none; MICROS];
-    let held = &micros[..micros.len().min(MICROS)];
-    for (i, m) in held.iter().enumerate() {
-        all[i] = part(m);
-    }
-    all
-}
 
 // The creation numbers.
 pub fn ids_of(micros: &[DbMicro]) -> [MicroId; MICROS]

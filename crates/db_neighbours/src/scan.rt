@@ -60,7 +60,7 @@ pub fn scan_for(micros: &[DbMicro], x: &[f64], dim: usize, r: f64) -> Scan
     ensures { scan_told (length micros.now) result ≡ scan_of r x.now (held (min dim max_dim) MICROS micros.now) }
 {
     let micros = &micros[..micros.len().min(MICROS)];
-    let distances = db_micro::each(micros, 0.0, |m| m.body.distance(x, dim));
+    let distances = lists::each(micros, 0.0, |m| m.body.distance(x, dim));
     let (ids, count) = near_ids(micros, &distances, r * r);
     let nearest = least(&distances[..micros.len()]);
     Scan {

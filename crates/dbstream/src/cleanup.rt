@@ -1,27 +1,39 @@
 // What a cleanup leaves.
-ghost use Rattle.std.specs.Prelude.{◌≡◌};
+ghost use Rattle.std.specs.Prelude.{◌≡◌, take};
+ghost use Rattle.lists.specs.Retain.{retain};
+ghost use Rattle.model.specs.DbInsert.{link_stays};
 ghost use Rattle.model.specs.Stream.{cleaned_of};
 ghost use Rattle.model.specs.Dbstream.{dbstream};
 ghost use Rattle.dbstream.specs.View.{view};
 
 use crate::stream::DbStream;
-use model::{LINKS, MICROS};
+use model::{DbMicro, LINKS, Link, MICROS};
+
+// The first count links that lost no end and did not fade below floor, in front; how many they are.
+fn links_left(
+    links: &mut [Link; LINKS],
+    count: usize,
+    held: &[DbMicro],
+    lambda: f64,
+    floor: f64,
+    t: f64,
+) -> usize
+    ensures { take result links.new ≡ retain (link_stays lambda floor t held.now) (take count links.old) }
+{
+    db_link::retained(&mut links[..count.min(LINKS)], held, lambda, floor, t)
+}
 
 impl DbStream {
     // Micro-clusters that faded below the floor go, then links that lost an end or faded below it.
     pub(crate) fn clean(&mut self)
         ensures { view self.new ≡ cleaned_of dbstream (view self.old) }
     {
+        let t = self.t;
         let lambda = self.params.settings.lambda;
         let floor = self.params.floor;
-        let t = self.t;
         let n = self.count.min(MICROS);
-        let micros = &mut self.micros[..];
-        let kept = db_micro::retained(&mut micros[..n], lambda, t, floor);
-        let k = self.link_count.min(LINKS);
-        let links = &mut self.links[..];
-        let held = &self.micros[..kept];
-        self.link_count = db_link::retained(&mut links[..k], held, lambda, floor, t);
-        self.count = kept;
+        self.count = db_micro::retained(&mut self.micros[..n], lambda, t, floor);
+        let held = &self.micros[..self.count];
+        self.link_count = links_left(&mut self.links, self.link_count, held, lambda, floor, t);
     }
 }

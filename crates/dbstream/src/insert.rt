@@ -49,20 +49,27 @@ impl DbStream {
         self.advance(scan.nearest);
     }
 
-    // The questions in order; a point that none refuses is taken, and a refused stream is the one that came.
+    // The questions in order; a point that none refuses is taken.
+    fn insert(&mut self, x: &[f64]) -> Result<(), InsertError>
+        ensures told { inserted_told (record { answer = result; stream = self.new }) ≡ insert_of (view self.old) x.now }
+        ensures kept { insertion_number result ≢ 0 → self.new ≡ self.old }
+    {
+        let dim = self.dim();
+        let scan = db_neighbours::scan_for(self.held(), x, dim, self.params.settings.r);
+        let place = scan.has_place(self.count);
+        model::insertion_asked(dim, x.len(), self.t, place)?;
+        self.take(&scan, x);
+        Ok(())
+    }
+
+    // The stream after the point; a refused stream is the one that came.
     pub fn try_insert(mut self, x: &[f64]) -> Inserted
         ensures result_value { inserted_told result ≡ insert_of (view self) x.now }
         ensures kept { insertion_number result.answer ≢ 0 → result.stream ≡ self }
         ensures said { insertion_said result.answer
             ≡ insertion_no (view self).params.settings.dim (length x.now) (view self).t (has_place (view self) x.now) }
     {
-        let dim = self.dim();
-        let scan = db_neighbours::scan_for(self.held(), x, dim, self.params.settings.r);
-        let place = scan.has_place(self.count);
-        let answer = model::insertion_asked(dim, x.len(), self.t, place);
-        if answer.is_ok() {
-            self.take(&scan, x);
-        }
+        let answer = self.insert(x);
         Inserted {
             answer,
             stream: self,

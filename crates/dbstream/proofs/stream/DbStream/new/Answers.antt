@@ -3,21 +3,21 @@ use mathlib.Core.Path.{sym, ◌∙◌}
 use mathlib.Core.Bool.{true, false}
 use Rattle.model.specs.Stream.{asked}
 use Rattle.dbstream.specs.View.{view}
-use Rattle.dbstream.proofs.Openings.{opened}
+use Rattle.dbstream.proofs.Openings.{open_ok, opened}
 use Rattle.dbstream.proofs.stream.DbStream.new.Goals as goal
 
 pub returns-then-is_ok : goal.returns-then-is_ok
 unfolding asked
 returns-then-is_ok c =
-    let p = c.args.settings in
     let answer = c.asked-answer in
-    let opens = sym c.is_ok.ensures ∙ c.if-is_ok.true in let all = opened p answer.result true (view c.fresh-stream.result) answer.ensures opens
-    c.fresh-stream.ensures in record { result_value = all.0; said = all.1 }
+    let opens = open_ok answer.result ∙ sym c.is_ok.ensures.value ∙ c.if-is_ok.true in
+    let all = opened c.args.settings answer.result true (view c.fresh-stream.result) answer.ensures opens c.fresh-stream.ensures in
+    record { result_value = all.0; said = all.1 }
 
 pub returns : goal.returns
 unfolding asked
 returns c =
-    let p = c.args.settings in
     let answer = c.asked-answer in
-    let stays = sym c.is_ok.ensures ∙ c.if-is_ok.false in let all = opened p answer.result false (view c.fresh-stream-2.result) answer.ensures
-    stays c.fresh-stream-2.ensures in record { result_value = all.0; said = all.1 }
+    let stays = open_ok answer.result ∙ sym c.is_ok.ensures.value ∙ c.if-is_ok.false in
+    let all = opened c.args.settings answer.result false (view c.fresh-stream-2.result) answer.ensures stays c.fresh-stream-2.ensures in
+    record { result_value = all.0; said = all.1 }
