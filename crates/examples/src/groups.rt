@@ -18,9 +18,9 @@ pub fn three_zeros(rt: &impl Print) -> io::Result<()> {
     }
     let clustered = stream.cluster().stream;
     let mut labels = [0; MICROS];
-    den_readout::labels(&clustered, &mut labels);
+    let read = den_readout::labels(&clustered, &mut labels);
     let potential = clustered.potential_count();
-    let label = if labels[0] == -1 {
+    let label = if read.is_ok() && labels[0] == -1 {
         "label -1"
     } else {
         "another label"
