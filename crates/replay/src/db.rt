@@ -49,7 +49,12 @@ impl Stream for DbStream {
         db_readout::try_predict(self, x)
     }
 
-    fn statistics(&self, centres: &mut [f64], weights: &mut [f64], radii: &mut [f64]) -> Result<(), TooShort> {
+    fn statistics(
+        &self,
+        centres: &mut [f64],
+        weights: &mut [f64],
+        radii: &mut [f64],
+    ) -> Result<(), TooShort> {
         db_readout::micro_stats(self, centres, weights, radii)
     }
 

@@ -40,7 +40,12 @@ impl Stream for DenStream {
         den_readout::try_predict(self, x)
     }
 
-    fn statistics(&self, centres: &mut [f64], weights: &mut [f64], radii: &mut [f64]) -> Result<(), TooShort> {
+    fn statistics(
+        &self,
+        centres: &mut [f64],
+        weights: &mut [f64],
+        radii: &mut [f64],
+    ) -> Result<(), TooShort> {
         den_readout::potential_stats(self, centres, weights, radii)
     }
 

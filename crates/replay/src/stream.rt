@@ -22,7 +22,12 @@ pub trait Stream: Copy {
 
     fn predict(&self, x: &[f64]) -> Result<i64, ShapeError>;
 
-    fn statistics(&self, centres: &mut [f64], weights: &mut [f64], radii: &mut [f64]) -> Result<(), TooShort>;
+    fn statistics(
+        &self,
+        centres: &mut [f64],
+        weights: &mut [f64],
+        radii: &mut [f64],
+    ) -> Result<(), TooShort>;
 
     // None of a kind that has no links.
     fn connectivity(&self, a: MicroId, b: MicroId) -> Option<Result<f64, NotLive>>;
