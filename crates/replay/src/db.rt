@@ -1,9 +1,9 @@
 // A DBSTREAM as the script calls it.
 use crate::figures::{Counted, Feature, Figure, whole};
-use crate::stream::Stream;
+use crate::stream::Replayed;
 use dbstream::DbStream;
-use drift::{DriftMonitor, DriftReport};
-use model::{DbMicro, InsertError, LINKS, Link, MICROS, MicroId, NotLive, ShapeError, TooShort};
+use drift::DriftMonitor;
+use model::{DbMicro, LINKS, Link, MICROS, MicroId, NotLive, ShapeError, TooShort};
 use std::fmt;
 use words::Bits;
 
@@ -28,19 +28,7 @@ impl Figure for Link {
     }
 }
 
-impl Stream for DbStream {
-    fn insert(&mut self, x: &[f64]) -> Result<(), InsertError> {
-        let inserted = (*self).try_insert(x);
-        *self = inserted.stream;
-        inserted.answer
-    }
-
-    fn cluster(&mut self) -> (u64, u64) {
-        let clustered = DbStream::cluster(*self);
-        *self = clustered.stream;
-        (clustered.finds, clustered.steps)
-    }
-
+impl Replayed for DbStream {
     fn labels(&self, out: &mut [i64]) -> Result<(), TooShort> {
         db_readout::labels(self, out)
     }
@@ -62,51 +50,30 @@ impl Stream for DbStream {
         Some(db_readout::connectivity(self, a, b))
     }
 
-    fn dim(&self) -> usize {
-        DbStream::dim(self)
-    }
-
-    fn micro_count(&self) -> usize {
-        DbStream::micro_count(self)
+    fn coordinates(&self) -> usize {
+        self.dim()
     }
 
     fn families(&self) -> usize {
         db_readout::n_clusters(self)
     }
 
-    fn report(&self) -> DriftReport {
-        self.drift.report()
-    }
-
-    fn kept_labels(&self) -> &[i64] {
-        let n = self.label_count.min(MICROS);
-        &self.labels[..n]
-    }
-
-    fn kept_drift(&self) -> &DriftMonitor {
+    fn monitor(&self) -> &DriftMonitor {
         &self.drift
     }
 
     fn write_held<W: fmt::Write>(&self, f: &mut fmt::Formatter<W>) -> fmt::Result {
-        let dim = self.params.settings.dim;
+        let dim = self.dim();
         let n = self.count.min(MICROS);
         let m = self.link_count.min(LINKS);
-        write!(f, "db {} {}", whole(self.t), self.next_id.0)?;
-        write!(
-            f,
-            "{}",
-            Counted {
-                held: &self.micros[..n],
-                dim
-            }
-        )?;
-        write!(
-            f,
-            "{}",
-            Counted {
-                held: &self.links[..m],
-                dim
-            }
-        )
+        let micros = Counted {
+            held: &self.micros[..n],
+            dim,
+        };
+        let links = Counted {
+            held: &self.links[..m],
+            dim,
+        };
+        write!(f, "db {} {}{micros}{links}", whole(self.t), self.next_id.0)
     }
 }

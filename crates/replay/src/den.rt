@@ -1,9 +1,9 @@
 // A DenStream as the script calls it.
 use crate::figures::{Counted, Feature, Figure, whole};
-use crate::stream::Stream;
+use crate::stream::Replayed;
 use denstream::DenStream;
-use drift::{DriftMonitor, DriftReport};
-use model::{DenMicro, InsertError, MICROS, MicroId, NotLive, ShapeError, TooShort};
+use drift::DriftMonitor;
+use model::{DenMicro, MICROS, MicroId, NotLive, ShapeError, TooShort};
 use std::fmt;
 
 impl Figure for DenMicro {
@@ -19,19 +19,7 @@ impl Figure for DenMicro {
     }
 }
 
-impl Stream for DenStream {
-    fn insert(&mut self, x: &[f64]) -> Result<(), InsertError> {
-        let inserted = (*self).try_insert(x);
-        *self = inserted.stream;
-        inserted.answer
-    }
-
-    fn cluster(&mut self) -> (u64, u64) {
-        let clustered = DenStream::cluster(*self);
-        *self = clustered.stream;
-        (clustered.finds, clustered.steps)
-    }
-
+impl Replayed for DenStream {
     fn labels(&self, out: &mut [i64]) -> Result<(), TooShort> {
         den_readout::labels(self, out)
     }
@@ -53,51 +41,30 @@ impl Stream for DenStream {
         None
     }
 
-    fn dim(&self) -> usize {
-        DenStream::dim(self)
-    }
-
-    fn micro_count(&self) -> usize {
-        DenStream::potential_count(self)
+    fn coordinates(&self) -> usize {
+        self.dim()
     }
 
     fn families(&self) -> usize {
         den_readout::n_clusters(self)
     }
 
-    fn report(&self) -> DriftReport {
-        self.drift.report()
-    }
-
-    fn kept_labels(&self) -> &[i64] {
-        let n = self.label_count.min(MICROS);
-        &self.labels[..n]
-    }
-
-    fn kept_drift(&self) -> &DriftMonitor {
+    fn monitor(&self) -> &DriftMonitor {
         &self.drift
     }
 
     fn write_held<W: fmt::Write>(&self, f: &mut fmt::Formatter<W>) -> fmt::Result {
-        let dim = DenStream::dim(self);
+        let dim = self.dim();
         let np = self.potential_count.min(MICROS);
         let no = self.outlier_count.min(MICROS);
-        write!(f, "den {}", whole(self.t))?;
-        write!(
-            f,
-            "{}",
-            Counted {
-                held: &self.potential[..np],
-                dim
-            }
-        )?;
-        write!(
-            f,
-            "{}",
-            Counted {
-                held: &self.outliers[..no],
-                dim
-            }
-        )
+        let potential = Counted {
+            held: &self.potential[..np],
+            dim,
+        };
+        let outliers = Counted {
+            held: &self.outliers[..no],
+            dim,
+        };
+        write!(f, "den {}{potential}{outliers}", whole(self.t))
     }
 }

@@ -3,21 +3,16 @@ use crate::answers;
 use crate::drift_figures::Drift;
 use crate::figures::{Counted, Doubles};
 use crate::operation::StreamCall;
-use drift::{DriftMonitor, DriftReport};
+use drift::DriftMonitor;
 use feature::MAX_DIM;
-use model::{InsertError, MICROS, MicroId, NotLive, ShapeError, TooShort};
+use model::{MICROS, MicroId, NotLive, ShapeError, Stream, TooShort};
 use std::{fmt, io};
 
 // The most coordinates of all centres together.
 const CENTRES: usize = MICROS * MAX_DIM;
 
-// What both kinds of stream do, each in its way.
-pub trait Stream: Copy {
-    fn insert(&mut self, x: &[f64]) -> Result<(), InsertError>;
-
-    // The finds that it made, and their halving steps.
-    fn cluster(&mut self) -> (u64, u64);
-
+// What else the script asks of a stream, which each kind answers in its way.
+pub trait Replayed: Stream + Copy {
     fn labels(&self, out: &mut [i64]) -> Result<(), TooShort>;
 
     fn predict(&self, x: &[f64]) -> Result<i64, ShapeError>;
@@ -32,33 +27,27 @@ pub trait Stream: Copy {
     // None of a kind that has no links.
     fn connectivity(&self, a: MicroId, b: MicroId) -> Option<Result<f64, NotLive>>;
 
-    fn dim(&self) -> usize;
-
-    fn micro_count(&self) -> usize;
+    fn coordinates(&self) -> usize;
 
     fn families(&self) -> usize;
 
-    fn report(&self) -> DriftReport;
-
-    fn kept_labels(&self) -> &[i64];
-
-    fn kept_drift(&self) -> &DriftMonitor;
+    fn monitor(&self) -> &DriftMonitor;
 
     // The kind, the clock, and all that stands before the labels on operation 13's line.
     fn write_held<W: fmt::Write>(&self, f: &mut fmt::Formatter<W>) -> fmt::Result;
 }
 
 // The labels, into a slice of that length.
-fn labels<S: Stream>(rt: &impl Print, stream: &S, capacity: usize) -> io::Result<()> {
+fn labels<S: Replayed>(rt: &impl Print, stream: &S, capacity: usize) -> io::Result<()> {
     let mut out = [0i64; MICROS];
     let n = capacity.min(MICROS);
     let answer = stream.labels(&mut out[..n]);
-    let count = stream.kept_labels().len().min(MICROS);
+    let count = stream.labels_told().len().min(MICROS);
     answers::say_labels(rt, answer, &out[..count])
 }
 
 // Centres, weights and radii, into slices of these lengths.
-fn statistics<S: Stream>(
+fn statistics<S: Replayed>(
     rt: &impl Print,
     stream: &S,
     centres: usize,
@@ -75,8 +64,8 @@ fn statistics<S: Stream>(
     let Ok(()) = answer else {
         return answers::say_refused(rt, 10);
     };
-    let n = stream.micro_count().min(MICROS);
-    let dim = stream.dim().min(MAX_DIM);
+    let n = stream.micros_held().min(MICROS);
+    let dim = stream.coordinates().min(MAX_DIM);
     let coordinates = (n * dim).min(CENTRES);
     let centres = Doubles(&cs[..coordinates]);
     let weights = Doubles(&ws[..n]);
@@ -84,7 +73,12 @@ fn statistics<S: Stream>(
     println!(rt; "stats {n} {dim}{centres}{weights}{radii}")
 }
 
-fn connectivity<S: Stream>(rt: &impl Print, stream: &S, a: MicroId, b: MicroId) -> io::Result<()> {
+fn connectivity<S: Replayed>(
+    rt: &impl Print,
+    stream: &S,
+    a: MicroId,
+    b: MicroId,
+) -> io::Result<()> {
     let Some(answer) = stream.connectivity(a, b) else {
         return println!(rt; "none");
     };
@@ -92,12 +86,17 @@ fn connectivity<S: Stream>(rt: &impl Print, stream: &S, a: MicroId, b: MicroId) 
 }
 
 // A call on a stream.
-pub fn act<S: Stream>(rt: &impl Print, stream: &mut S, call: StreamCall) -> io::Result<()> {
+pub fn act<S: Replayed>(rt: &impl Print, stream: &mut S, call: StreamCall) -> io::Result<()> {
     match call {
-        StreamCall::Insert(point) => answers::say_insertion(rt, stream.insert(point.coordinates())),
+        StreamCall::Insert(point) => {
+            let inserted = (*stream).try_insert(point.coordinates());
+            *stream = inserted.stream;
+            answers::say_insertion(rt, inserted.answer)
+        }
         StreamCall::Cluster => {
-            let (finds, steps) = stream.cluster();
-            println!(rt; "ok {finds} {steps}")
+            let clustered = (*stream).cluster();
+            *stream = clustered.stream;
+            println!(rt; "ok {} {}", clustered.finds, clustered.steps)
         }
         StreamCall::Labels { capacity } => labels(rt, stream, capacity),
         StreamCall::Predict(point) => answers::say_prediction(
@@ -110,13 +109,13 @@ pub fn act<S: Stream>(rt: &impl Print, stream: &mut S, call: StreamCall) -> io::
             radii,
         } => { statistics(rt, stream, centres, weights, radii) }
         StreamCall::Connectivity(a, b) => connectivity(rt, stream, a, b),
-        StreamCall::Drift => answers::say_drift(rt, stream.report()),
+        StreamCall::Drift => answers::say_drift(rt, stream.drift_report()),
         StreamCall::Figures => println!(rt; "{}", Figures(stream)),
         StreamCall::Counts => {
             println!(rt;
                 "counts {} {} {}",
-                stream.dim(),
-                stream.micro_count(),
+                stream.coordinates(),
+                stream.micros_held(),
                 stream.families()
             )
         }
@@ -127,7 +126,7 @@ pub fn act<S: Stream>(rt: &impl Print, stream: &mut S, call: StreamCall) -> io::
 #[derive(Clone, Copy)]
 struct Figures<'a, S>(&'a S);
 
-impl<S: Stream> fmt::Display for Figures<'_, S> {
+impl<S: Replayed> fmt::Display for Figures<'_, S> {
     fn fmt<W: fmt::Write>(&self, f: &mut fmt::Formatter<W>) -> fmt::Result {
         let stream = self.0;
         stream.write_held(f)?;
@@ -135,10 +134,10 @@ impl<S: Stream> fmt::Display for Figures<'_, S> {
             f,
             "{} {}",
             Counted {
-                held: stream.kept_labels(),
+                held: stream.labels_told(),
                 dim: 0
             },
-            Drift(stream.kept_drift())
+            Drift(stream.monitor())
         )
     }
 }
