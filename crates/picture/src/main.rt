@@ -5,10 +5,9 @@ const STDOUT: i32 = 1;
 
 fn main(rt: HostRuntime) {
     let mut room = [0u8; input::ROOM];
-    let got = input::read(&mut rt.stdin(), &mut room);
-    let n = got.count(&room);
+    let n = input::read(&mut rt.stdin(), &mut room).unwrap_or(0);
     let mut output = [0u8; text::ROOM];
-    let written = picture_text::picture(&room[..n], &mut output);
-    let m = written.count(&output);
-    io::write_all(STDOUT, &output[..m]);
+    if let Ok(m) = picture_text::picture(&room[..n], &mut output) {
+        io::write_all(STDOUT, &output[..m]);
+    }
 }

@@ -1,3 +1,2 @@
 -- What the proofs of picture_lines share.
 pub mod Plotting
-pub mod Rows

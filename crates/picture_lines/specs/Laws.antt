@@ -1,2 +1,3 @@
 -- What follows from the definitions, for proofs.
 pub mod Sizes
+pub mod Rows

@@ -1,7 +1,7 @@
 // What `picture` prints for the bytes of its input: the families in words and as a picture.
 #![tactic(auto)]
 
-ghost use Rattle.std.specs.Prelude.{◌≡◌, take};
+ghost use Rattle.std.specs.Prelude.{◌≡◌, ◌≤◌, length, take, IfOk};
 ghost use Rattle.dbstream.specs.View.{view};
 ghost use Rattle.text.specs.Text.{room, text_of};
 ghost use Rattle.text.specs.Lent.{write_told, write_of};
@@ -10,7 +10,7 @@ ghost use Rattle.picture_text.specs.Picture.{drawn_of, picture_text};
 use dbstream::DbStream;
 use model::MICROS;
 use picture_lines::CENTRES;
-use text::{Text, Writing};
+use text::{Text, TooShort};
 
 // The figures of a reading: rate, amplitude and beat error.
 const FIGURES: usize = 3;
@@ -29,7 +29,9 @@ fn drawn(stream: DbStream) -> Text
     db_readout::labels(clustered, &mut labels);
     let report = clustered.drift();
     let n = clustered.micro_count();
-    picture_lines::drawn(text::blank(), centres, weights, labels, n, report.alarms)
+    let mut text = Text::new();
+    picture_lines::drawn(&mut text, &centres, &weights, &labels[..n], report.alarms);
+    text
 }
 
 // A refusal is all that is printed; so is that another dim has no picture.
@@ -43,15 +45,17 @@ fn text_of(input: &[u8]) -> Text
     }
     let stream = session.stream;
     if stream.dim() != FIGURES {
-        return text::add(text::blank(), b"a picture needs dim 3\n");
+        let mut text = Text::new();
+        text.add(b"a picture needs dim 3\n");
+        return text;
     }
     drawn(stream)
 }
 
 // The text at the start of the output, if it has a place for all of it.
-pub fn picture(input: &[u8], output: &mut [u8]) -> Writing
-    ensures { write_told result output.new ≡ write_of (picture_text input.now) output.old }
+pub fn picture(input: &[u8], output: &mut [u8]) -> Result<usize, TooShort>
+    ensures told { write_told result output.new ≡ write_of (picture_text input.now) output.old }
+    ensures in_bounds { IfOk result (λ n. n ≤ length output.new) }
 {
-    let text = text_of(input);
-    text.write(output)
+    text_of(input).write(output)
 }

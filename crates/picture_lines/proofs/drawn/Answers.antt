@@ -1,7 +1,7 @@
 -- `drawn` meets its contract. Assumes nothing.
 use Rattle.std.proofs.Common.{eq-eqb, ne_eqb, arith}
 use Rattle.text.specs.Laws.Pieces.{both, worded}
-use Rattle.picture_lines.proofs.Rows.{held_rows}
+use Rattle.picture_lines.specs.Laws.Rows.{held_rows}
 use Rattle.picture_lines.proofs.drawn.Goals as goal
 
 pub returns-then-n-eq0 : goal.returns-then-n-eq0

@@ -20,7 +20,7 @@ pub returns-then-dim-ne-FIGURES : goal.returns-then-dim-ne-FIGURES
 returns-then-dim-ne-FIGURES c =
     let s = c.session_of-session in
     let input = c.args.input.now in
-    from_blank c.blank.ensures.result_value c.add.ensures (omega arith)
+    from_blank c.new-text.ensures.empty c.add.ensures (omega arith)
     ∙ other_dim input (ran_told s.result) s.ensures c.if-number-ne0.false (λ d. c.if-dim-ne-FIGURES.true (c.dim.ensures ∙ d))
 
 pub returns : goal.returns
