@@ -2,12 +2,9 @@
 use Rattle.std.specs.Prelude.{ℕ, min, take}
 use Rattle.feature.specs.Feature.{max_dim}
 use Rattle.drift.specs.Monitor as drift
-use Rattle.model.specs.Outcome as outcome
 use Rattle.model.specs.DbState.{Settings, Params, Holdings, State}
 use Rattle.db_micro.specs.Held.{held}
 use Rattle.dbstream.specs.declared.stream.DbStream.{DbStream}
-use Rattle.dbstream.specs.declared.opening.Opened.{Opened}
-use Rattle.dbstream.specs.declared.insert.Inserted.{Inserted}
 
 -- p of so many coordinates
 abbrev pub with_dim : Settings → ℕ → Settings
@@ -26,11 +23,3 @@ held_in s = record { next = s.next_id.0; micros = held (dim_of s) s.count s.micr
 
 abbrev pub view : DbStream → State
 view s = record { params = settled_of s.params; t = s.t; held = held_in s; labels = take s.label_count s.labels; drift = drift.view s.drift }
-
--- what an opening tells
-abbrev pub opened_told : Opened → outcome.Opened State
-opened_told o = record { answer = o.answer; stream = view o.stream }
-
--- what an insert tells
-abbrev pub inserted_told : Inserted → outcome.Outcome State
-inserted_told r = record { answer = r.answer; stream = view r.stream }

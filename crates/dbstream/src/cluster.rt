@@ -5,16 +5,8 @@ ghost use Rattle.dbstream.specs.View.{view};
 
 use crate::stream::DbStream;
 use labels::Labelled;
-use model::{LINKS, MICROS};
+use model::{Clustered, LINKS, MICROS};
 use union_find::Work;
-
-// The finds that the labels took, the halving steps of all these, and the stream.
-#[derive(Clone, Copy)]
-pub struct Clustered {
-    pub finds: u64,
-    pub steps: u64,
-    pub stream: DbStream,
-}
 
 impl DbStream {
     // Labels by first member; weights and links are taken as faded to the clock, and stay as stored. Which finds that took.
@@ -44,7 +36,7 @@ impl DbStream {
     }
 
     // The labels of the micro-clusters, -1 for those that are not strong, and the work that finding them was.
-    pub fn cluster(mut self) -> Clustered
+    pub fn cluster(mut self) -> Clustered<DbStream>
         ensures stream_value { view result.stream ≡ cluster_of (view self) }
         ensures finds { result.finds ≡ finds_of (view self) }
         ensures steps { result.steps ≡ steps_of (view self) }

@@ -2,20 +2,14 @@
 ghost use Rattle.std.specs.Prelude.{◌≡◌, ◌≢◌, length};
 ghost use Rattle.model.specs.Answers.{insertion_number};
 ghost use Rattle.model.specs.Numbers.{insertion_no, insertion_said};
+ghost use Rattle.model.specs.Told.{inserted_told};
 ghost use Rattle.model.specs.Dbstream.{tick_of, has_place, insert_of};
-ghost use Rattle.dbstream.specs.View.{view, inserted_told};
+ghost use Rattle.dbstream.specs.View.{view};
 ghost use Rattle.dbstream.specs.Inside.Placed.{placed_by, told_of};
 
 use crate::stream::DbStream;
 use db_neighbours::Scan;
-use model::InsertError;
-
-// The answer, and the stream given back.
-#[derive(Clone, Copy)]
-pub struct Inserted {
-    pub answer: Result<(), InsertError>,
-    pub stream: DbStream,
-}
+use model::{InsertError, Inserted};
 
 impl DbStream {
     // The point joins the micro-clusters, the links of its neighbours gain, and the labels go.
@@ -51,7 +45,7 @@ impl DbStream {
 
     // The questions in order; a point that none refuses is taken.
     fn insert(&mut self, x: &[f64]) -> Result<(), InsertError>
-        ensures told { inserted_told (record { answer = result; stream = self.new }) ≡ insert_of (view self.old) x.now }
+        ensures told { inserted_told view (record { answer = result; stream = self.new }) ≡ insert_of (view self.old) x.now }
         ensures kept { insertion_number result ≢ 0 → self.new ≡ self.old }
     {
         let dim = self.dim();
@@ -63,8 +57,8 @@ impl DbStream {
     }
 
     // The stream after the point; a refused stream is the one that came.
-    pub fn try_insert(mut self, x: &[f64]) -> Inserted
-        ensures result_value { inserted_told result ≡ insert_of (view self) x.now }
+    pub fn try_insert(mut self, x: &[f64]) -> Inserted<DbStream>
+        ensures result_value { inserted_told view result ≡ insert_of (view self) x.now }
         ensures kept { insertion_number result.answer ≢ 0 → result.stream ≡ self }
         ensures said { insertion_said result.answer
             ≡ insertion_no (view self).params.settings.dim (length x.now) (view self).t (has_place (view self) x.now) }

@@ -19,28 +19,15 @@ impl Stream for DbStream {
     ghost view = { own.view };
 
     fn open(settings: DbSettings) -> Opened<DbStream> {
-        let opened = DbStream::new(settings);
-        Opened {
-            answer: opened.answer,
-            stream: opened.stream,
-        }
+        DbStream::new(settings)
     }
 
     fn try_insert(self, x: &[f64]) -> Inserted<DbStream> {
-        let inserted = DbStream::try_insert(self, x);
-        Inserted {
-            answer: inserted.answer,
-            stream: inserted.stream,
-        }
+        DbStream::try_insert(self, x)
     }
 
     fn cluster(self) -> Clustered<DbStream> {
-        let clustered = DbStream::cluster(self);
-        Clustered {
-            finds: clustered.finds,
-            steps: clustered.steps,
-            stream: clustered.stream,
-        }
+        DbStream::cluster(self)
     }
 
     fn micros_held(&self) -> usize {

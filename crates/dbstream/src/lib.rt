@@ -9,7 +9,4 @@ mod opening;
 mod stream;
 mod tick;
 
-pub use cluster::Clustered;
-pub use insert::Inserted;
-pub use opening::Opened;
 pub use stream::DbStream;

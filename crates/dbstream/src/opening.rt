@@ -3,19 +3,13 @@ ghost use Rattle.std.specs.Prelude.{min, ◌≡◌};
 ghost use Rattle.feature.specs.Feature.{max_dim};
 ghost use Rattle.model.specs.Answers.{opening_number};
 ghost use Rattle.model.specs.Numbers.{db_opening_no};
+ghost use Rattle.model.specs.Told.{opened_told};
 ghost use Rattle.model.specs.Dbstream.{fresh, open_of};
-ghost use Rattle.dbstream.specs.View.{view, with_dim, opened_told};
+ghost use Rattle.dbstream.specs.View.{view, with_dim};
 
 use crate::stream::DbStream;
 use drift::DriftMonitor;
-use model::{Body, DbMicro, DbParams, DbSettings, LINKS, Link, MICROS, MicroId, OpenError};
-
-// The answer, and the stream; beside a refusal stands one whose settings are all 0.
-#[derive(Clone, Copy)]
-pub struct Opened {
-    pub answer: Result<(), OpenError>,
-    pub stream: DbStream,
-}
+use model::{Body, DbMicro, DbParams, DbSettings, LINKS, Link, MICROS, MicroId, Opened};
 
 impl DbStream {
     // No micro-cluster, link or label, an empty window, no alarm, clock 0.
@@ -52,9 +46,9 @@ impl DbStream {
         }
     }
 
-    // The questions in order: the first no decides.
-    pub fn new(settings: DbSettings) -> Opened
-        ensures result_value { opened_told result ≡ open_of settings }
+    // The questions in order: the first no decides. Beside a refusal stands a stream whose settings are all 0.
+    pub fn new(settings: DbSettings) -> Opened<DbStream>
+        ensures result_value { opened_told view result ≡ open_of settings }
         ensures said { opening_number result.answer ≡ db_opening_no settings }
     {
         let answer = model::asked(
