@@ -1,3 +1,3 @@
--- What the proofs of `src/` cite: the trial of a nearest.
-pub mod Pools
+-- What the proofs of `src/` cite: a removal, and the trial of a nearest.
+pub mod Removal
 pub mod Tries

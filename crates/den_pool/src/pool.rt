@@ -10,11 +10,7 @@ use model::{DenMicro, MICROS};
 pub fn faded_weights(pool: &[DenMicro], lambda: f64, t: f64) -> [f64; MICROS]
     ensures { take (length pool.now) result ≡ map (weight_of lambda t) (take micros_most pool.now) }
 {
-    let mut weights = [0.0; MICROS];
-    for i in 0..pool.len().min(MICROS) {
-        weights[i] = pool[i].body.faded_weight(lambda, t);
-    }
-    weights
+    lists::each(pool, 0.0, |m| m.body.faded_weight(lambda, t))
 }
 
 // Takes out the one at the place, if it is there: the others keep their order in front, and are counted.

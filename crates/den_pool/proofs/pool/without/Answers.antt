@@ -2,7 +2,7 @@
 use mathlib.Core.Path.{◌∙◌}
 use native.Mathlib.Omega.{arith}
 use Rattle.std.proofs.lemmas.List.{take_all}
-use Rattle.den_pool.proofs.Pools.{without_past, without_rotated}
+use Rattle.den_pool.proofs.Removal.{without_past, without_rotated}
 use Rattle.den_pool.proofs.pool.without.Goals as goal
 
 pub returns-then-pool-place-clause-result_value : goal.returns-then-pool-place-clause-result_value
