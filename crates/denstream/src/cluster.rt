@@ -5,15 +5,8 @@ ghost use Rattle.denstream.specs.View.{view};
 
 use crate::stream::DenStream;
 use labels::Labelled;
+use model::Clustered;
 use union_find::Work;
-
-// The finds that the labels took, the halving steps of all these, and the stream.
-#[derive(Clone, Copy)]
-pub struct Clustered {
-    pub finds: u64,
-    pub steps: u64,
-    pub stream: DenStream,
-}
 
 impl DenStream {
     // Groups whose faded weights reach mu are labelled from 0 by first member; the others get -1. The finds that this took.
@@ -29,8 +22,8 @@ impl DenStream {
         work
     }
 
-    // The labels of the potential micro-clusters, and the finds that they took.
-    pub fn cluster(mut self) -> Clustered
+    // The labels of the potential micro-clusters, the finds that they took and the halving steps of all these.
+    pub fn cluster(mut self) -> Clustered<DenStream>
         ensures stream_value { view result.stream ≡ cluster_of (view self) }
         ensures finds { result.finds ≡ finds_of (view self) }
         ensures steps { result.steps ≡ steps_of (view self) }

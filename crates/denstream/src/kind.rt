@@ -27,12 +27,7 @@ impl Stream for DenStream {
     }
 
     fn cluster(self) -> Clustered<DenStream> {
-        let clustered = DenStream::cluster(self);
-        Clustered {
-            finds: clustered.finds,
-            steps: clustered.steps,
-            stream: clustered.stream,
-        }
+        DenStream::cluster(self)
     }
 
     fn micros_held(&self) -> usize {

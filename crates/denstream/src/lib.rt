@@ -9,5 +9,5 @@ mod opening;
 mod stream;
 mod tick;
 
-pub use cluster::Clustered;
+pub use model::{Clustered, Inserted, Opened};
 pub use stream::DenStream;
