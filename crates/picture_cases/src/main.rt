@@ -2,6 +2,7 @@
 #![tactic(auto)]
 
 use std::io::{Error, ErrorKind, Read, Result};
+use text::Text;
 
 const STDOUT: i32 = 1;
 
@@ -18,60 +19,85 @@ impl Read for Broken {
 // What `picture` prints for an input, under its heading.
 fn show(heading: &[u8], input: &[u8]) {
     let mut output = [0u8; text::ROOM];
-    let written = picture_text::picture(input, &mut output);
-    let n = written.count(&output);
     io::write_all(STDOUT, heading);
     io::write_all(STDOUT, b":\n");
-    io::write_all(STDOUT, &output[..n]);
+    if let Ok(n) = picture_text::picture(input, &mut output) {
+        io::write_all(STDOUT, &output[..n]);
+    }
 }
 
 // Where a read fails there is no input.
 fn failing() {
     let mut room = [1u8; input::ROOM];
-    let got = input::read(&mut Broken, &mut room);
-    let n = got.count(&room);
+    let n = input::read(&mut Broken, &mut room).unwrap_or(0);
     show(b"a read that fails", &room[..n]);
 }
 
-// Settings: dim, r, lambda 2^-10, alpha 0.5, min_weight; then the readings.
+// What is no number has one form.
+fn add_double(input: &mut Text, x: f64) {
+    let bits = if x.is_nan() {
+        0x7ff8_0000_0000_0000
+    } else {
+        x.to_bits()
+    };
+    input.add(&bits.to_le_bytes());
+}
+
+// The input of settings, with lambda 2^-10 and alpha 0.5, and of readings: rate, amplitude and beat error.
+fn session(heading: &[u8], dim: u64, r: f64, min_weight: f64, readings: &[[f64; 3]]) {
+    let mut input = Text::new();
+    input.add(&dim.to_le_bytes());
+    add_double(&mut input, r);
+    add_double(&mut input, 0.0009765625);
+    add_double(&mut input, 0.5);
+    add_double(&mut input, min_weight);
+    for reading in readings {
+        for figure in reading {
+            add_double(&mut input, *figure);
+        }
+    }
+    let mut room = [0u8; text::ROOM];
+    if let Ok(n) = input.write(&mut room) {
+        show(heading, &room[..n]);
+    }
+}
+
 fn main() {
     show(b"no input", b"");
     failing();
-    show(
-        b"r 0",
-        b"\x03\0\0\0\0\0\0\0\0\0\0\0\0\0\0\0\0\0\0\0\0\0\x50\x3f\0\0\0\0\0\0\xe0\x3f\0\0\0\0\0\0\xf0\x3f",
-    );
-    show(
-        b"dim 1",
-        b"\x01\0\0\0\0\0\0\0\0\0\0\0\0\0\xf0\x3f\0\0\0\0\0\0\x50\x3f\0\0\0\0\0\0\xe0\x3f\0\0\0\0\0\0\xf0\x3f",
-    );
-    show(
-        b"no reading",
-        b"\x03\0\0\0\0\0\0\0\0\0\0\0\0\0\xf0\x3f\0\0\0\0\0\0\x50\x3f\0\0\0\0\0\0\xe0\x3f\0\0\0\0\0\0\xf0\x3f",
-    );
-    // min_weight 0.5: NaN, 300, -5; 2^1000, -1, infinity; -200, 123456, 99; 0, 0, 0.
-    show(
+    session(b"r 0", 3, 0.0, 1.0, &[]);
+    session(b"dim 1", 1, 1.0, 1.0, &[]);
+    session(b"no reading", 3, 1.0, 1.0, &[]);
+    // The rate of the second is 2^1000.
+    session(
         b"no numbers and large ones",
-        b"\x03\0\0\0\0\0\0\0\0\0\0\0\0\0\xf0\x3f\0\0\0\0\0\0\x50\x3f\0\0\0\0\0\0\xe0\x3f\0\0\0\0\0\0\xe0\x3f\
-        \0\0\0\0\0\0\xf8\x7f\0\0\0\0\0\xc0\x72\x40\0\0\0\0\0\0\x14\xc0\
-        \0\0\0\0\0\0\x70\x7e\0\0\0\0\0\0\xf0\xbf\0\0\0\0\0\0\xf0\x7f\
-        \0\0\0\0\0\0\x69\xc0\0\0\0\0\0\x24\xfe\x40\0\0\0\0\0\xc0\x58\x40\
-        \0\0\0\0\0\0\0\0\0\0\0\0\0\0\0\0\0\0\0\0\0\0\0\0",
+        3,
+        1.0,
+        0.5,
+        &[
+            [f64::NAN, 300.0, -5.0],
+            [1.0715086071862673e301, -1.0, f64::INFINITY],
+            [-200.0, 123456.0, 99.0],
+            [0.0, 0.0, 0.0],
+        ],
     );
-    // r 0.5, min_weight 1.5: -60, 150, 0 and 60, 330, 36, twice each, in the corners; then -61.5, 144, -1.5; 62, 336, 38; 0, 340, 10;
-    // 61, 330, 36; 60.75, 331, 36; 0, NaN, 2.
-    show(
+    // In the corners, twice each, and outside them.
+    session(
         b"edges",
-        b"\x03\0\0\0\0\0\0\0\0\0\0\0\0\0\xe0\x3f\0\0\0\0\0\0\x50\x3f\0\0\0\0\0\0\xe0\x3f\0\0\0\0\0\0\xf8\x3f\
-        \0\0\0\0\0\0\x4e\xc0\0\0\0\0\0\xc0\x62\x40\0\0\0\0\0\0\0\0\
-        \0\0\0\0\0\0\x4e\xc0\0\0\0\0\0\xc0\x62\x40\0\0\0\0\0\0\0\0\
-        \0\0\0\0\0\0\x4e\x40\0\0\0\0\0\xa0\x74\x40\0\0\0\0\0\0\x42\x40\
-        \0\0\0\0\0\0\x4e\x40\0\0\0\0\0\xa0\x74\x40\0\0\0\0\0\0\x42\x40\
-        \0\0\0\0\0\xc0\x4e\xc0\0\0\0\0\0\0\x62\x40\0\0\0\0\0\0\xf8\xbf\
-        \0\0\0\0\0\0\x4f\x40\0\0\0\0\0\0\x75\x40\0\0\0\0\0\0\x43\x40\
-        \0\0\0\0\0\0\0\0\0\0\0\0\0\x40\x75\x40\0\0\0\0\0\0\x24\x40\
-        \0\0\0\0\0\x80\x4e\x40\0\0\0\0\0\xa0\x74\x40\0\0\0\0\0\0\x42\x40\
-        \0\0\0\0\0\x60\x4e\x40\0\0\0\0\0\xb0\x74\x40\0\0\0\0\0\0\x42\x40\
-        \0\0\0\0\0\0\0\0\0\0\0\0\0\0\xf8\x7f\0\0\0\0\0\0\0\x40",
+        3,
+        0.5,
+        1.5,
+        &[
+            [-60.0, 150.0, 0.0],
+            [-60.0, 150.0, 0.0],
+            [60.0, 330.0, 36.0],
+            [60.0, 330.0, 36.0],
+            [-61.5, 144.0, -1.5],
+            [62.0, 336.0, 38.0],
+            [0.0, 340.0, 10.0],
+            [61.0, 330.0, 36.0],
+            [60.75, 331.0, 36.0],
+            [0.0, f64::NAN, 2.0],
+        ],
     );
 }
