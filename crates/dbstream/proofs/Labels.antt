@@ -1,5 +1,5 @@
 -- The labels of the arrays, seen through the view. Assumes nothing.
-use Prim.Native.Nat.{ℕ, min}
+use Prim.Native.Nat.{ℕ, ◌≤◌, min}
 use native.Mathlib.Omega.{arith}
 use mathlib.Core.Path.{◌≡◌, sym, ap, ap₂, ◌∙◌}
 use mathlib.Core.List.{List, map, map-map}
@@ -8,9 +8,9 @@ use lib.IntN.{ℤ}
 use lib.Ieee.{Float}
 use lib.ListN.{length, take, length-take}
 use Rattle.std.proofs.lemmas.List.{take_all}
-use Rattle.lists.specs.Laws.Rest.{cut_take}
 use Rattle.model.specs.Limits.{micros_most, links_most}
 use Rattle.model.specs.declared.micro.DbMicro.{DbMicro}
+use Rattle.model.specs.declared.link.Link.{Link}
 use Rattle.float.specs.Rounded.{◌⊗◌}
 use Rattle.union_find.specs.declared.forest.Work.{Work}
 use Rattle.union_find.specs.Steps.{find_steps, work_by}
@@ -26,47 +26,45 @@ use Rattle.db_joins.specs.Laws.Joined.{joined_view}
 use Rattle.dbstream.specs.declared.stream.DbStream.{DbStream}
 use Rattle.dbstream.specs.View.{view, dim_of}
 
--- n micro-clusters and k links are held, and mask says which of them are strong
+-- micros and links are those held, and mask says which of them are strong
 module _
-    (s : DbStream) (n k : ℕ) (en : n ≡ min s.count micros_most) (ek : k ≡ min s.link_count links_most) (lm : length s.micros ≡ micros_most)
-    (ll : length s.links ≡ links_most) (mask : List Bool) (size : length mask ≡ micros_most)
-    (emask : take n mask ≡ map (reaches s.params.settings.lambda s.t s.params.settings.min_weight) (take n s.micros)) where
+    (s : DbStream) (lm : length s.micros ≡ micros_most) (ll : length s.links ≡ links_most)
+    (micros : List DbMicro) (em : micros ≡ take s.count s.micros) (links : List Link) (el : links ≡ take s.link_count s.links)
+    (mask : List Bool) (size : length mask ≡ micros_most)
+    (emask : take (length micros) mask ≡ map (reaches s.params.settings.lambda s.t s.params.settings.min_weight) (take micros_most micros)) where
   abbrev dense : Float
   dense = s.params.settings.alpha ⊗ s.params.settings.min_weight
 
-  abbrev held : List DbMicro
-  held = take n s.micros
-
-  -- what is lent to the labelling
+  -- of the mask as much counts as there are micro-clusters
   abbrev known : List Bool
-  known = take (min (length held) micros_most) mask
+  known = take (min (length micros) micros_most) mask
 
   abbrev joined : List (ℕ × ℕ)
-  joined = joined_by (map id_of held) known s.params.settings.lambda s.t dense (take links_most (take k s.links))
+  joined = joined_by (map id_of micros) known s.params.settings.lambda s.t dense (take links_most links)
 
-  held_are : held ≡ take s.count s.micros
-  held_are = cut_take n s.count micros_most s.micros en lm
+  few : length micros ≤ micros_most
+  few = omega (arith, ap length em, length-take s.count s.micros)
 
-  links_are : take links_most (take k s.links) ≡ (view s).held.links
-  links_are = take_all links_most (take k s.links) (omega (arith, length-take k s.links)) ∙ cut_take k s.link_count links_most s.links ek ll
+  links_are : take links_most links ≡ (view s).held.links
+  links_are = take_all links_most links (omega (arith, ap length el, length-take s.link_count s.links)) ∙ el
 
-  known_first : known ≡ take n mask
-  known_first = ap (λ (m : ℕ). take m mask) (omega (arith, length-take n s.micros))
+  known_first : known ≡ take (length micros) mask
+  known_first = ap (λ (m : ℕ). take m mask) (omega (arith, few))
 
-  known_size : length known ≡ n
-  known_size = ap length known_first ∙ omega (arith, length-take n mask)
+  known_size : length known ≡ length micros
+  known_size = omega (arith, length-take (min (length micros) micros_most) mask, few)
 
   strong_are : known ≡ strong_ones (view s)
   strong_are =
-      known_first ∙ emask ∙ ap (map (reaches s.params.settings.lambda s.t s.params.settings.min_weight)) held_are
+      known_first ∙ emask ∙ ap (map (reaches s.params.settings.lambda s.t s.params.settings.min_weight)) (take_all micros_most micros few ∙ em)
       ∙ sym (map-map (is_strong (view s)) (cut_to (dim_of s)) (take s.count s.micros))
 
-  ids_are : map id_of held ≡ map id_of (view s).held.micros
-  ids_are = ap (map id_of) held_are ∙ sym (map-map id_of (cut_to (dim_of s)) (take s.count s.micros))
+  ids_are : map id_of micros ≡ map id_of (view s).held.micros
+  ids_are = ap (map id_of) em ∙ sym (map-map id_of (cut_to (dim_of s)) (take s.count s.micros))
 
   joins_are : joined ≡ joins_of (view s) (view s).held.links
   joins_are =
-      ap (joined_by (map id_of held) known s.params.settings.lambda s.t dense) links_are
+      ap (joined_by (map id_of micros) known s.params.settings.lambda s.t dense) links_are
       ∙ ap₂ (λ (is : List MicroId) (bs : List Bool). joined_by is bs s.params.settings.lambda s.t dense (view s).held.links) ids_are strong_are
       ∙ joined_view (view s) (view s).held.links
 
@@ -74,7 +72,7 @@ module _
   unfolding labels_of
   labels_are = ap₂ labels_by strong_are joins_are
 
-  pub clustered : (labels : List ℤ) → take (length known) labels ≡ labels_by known joined → labelled (view s) (take n labels) ≡ cluster_of (view s)
+  pub clustered : (labels : List ℤ) → take (length known) labels ≡ labels_by known joined → labelled (view s) (take (length micros) labels) ≡ cluster_of (view s)
   clustered labels e = ap (labelled (view s)) (ap (λ (m : ℕ). take m labels) (sym known_size) ∙ e ∙ labels_are)
 
   -- the finds that were made are the stream's

@@ -12,7 +12,7 @@ met c =
     let s = c.args.self.now in
     let places : length s.micros ≡ micros_most = search rules in
     let measured : length c.scan_for-scan.result.distances ≡ micros_most = search rules in
-    scanned s c.args.x.now c.dim-dim.result c.scan_for-scan.result c.dim-dim.ensures places measured c.held.result.now c.held.ensures c.scan_for-scan.ensures
+    scanned s c.args.x.now c.dim-dim.result c.scan_for-scan.result c.dim-dim.ensures places measured c.held.result.now c.held.ensures.value c.scan_for-scan.ensures
 
 pub returns-in_err-insertion_asked-clause-told : goal.returns-in_err-insertion_asked-clause-told
 returns-in_err-insertion_asked-clause-told c =
