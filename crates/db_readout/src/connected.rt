@@ -1,99 +1,77 @@
 // Connectivity: the link of a pair over the mean of its weights, all faded to the present.
-ghost use Rattle.std.specs.Prelude.{◌≡◌, take};
+ghost use Rattle.std.specs.Prelude.{◌≡◌, find, nat_eq};
 ghost use Rattle.model.specs.Answers.{connectivity_said};
+ghost use Rattle.model.specs.DbInsert.{same_ends};
 ghost use Rattle.dbstream.specs.View.{view};
 ghost use Rattle.db_readout.specs.Connectivity.{are_live, weight_now, mean_now, density_over, connectivity_of};
 
+use db_link::{is_held, key_of, same_ends};
 use dbstream::DbStream;
-use model::{DbMicro, LINKS, Link, MICROS, MicroId, NotLive};
+use model::{DbMicro, Link, MicroId, NotLive};
 
 // Whether both creation numbers are held, and different.
-fn are_live(micros: [DbMicro; MICROS], n: usize, a: MicroId, b: MicroId) -> bool
-    ensures { result ≡ are_live (take n micros) a b }
+fn are_live(micros: &[DbMicro], a: MicroId, b: MicroId) -> bool
+    ensures { result ≡ are_live micros.now a b }
 {
-    let ids = db_micro::ids_of(micros, n);
-    if db_link::is_among(ids, n, a) {
-        if db_link::is_among(ids, n, b) {
-            return a.0 != b.0;
-        }
-    }
-    false
+    is_held(micros, a) && is_held(micros, b) && a != b
+}
+
+// The micro-cluster of a creation number.
+fn micro_of(micros: &[DbMicro], id: MicroId) -> Option<DbMicro>
+    ensures { result ≡ find (λ m. nat_eq m.id.0 id.0) micros.now }
+{
+    micros.iter().copied().find(|m| m.id == id)
+}
+
+// The link of the key's ends.
+fn link_of(links: &[Link], key: &Link) -> Option<Link>
+    ensures { result ≡ find (λ l. same_ends l key.now) links.now }
+{
+    links.iter().copied().find(|l| same_ends(l, key))
 }
 
 // The weight of the micro-cluster of a creation number, faded to t; 0 without one.
-fn weight_now(micros: [DbMicro; MICROS], n: usize, id: MicroId, lambda: f64, t: f64) -> f64
-    ensures { result ≡ weight_now lambda t (take n micros) id }
+fn weight_now(micros: &[DbMicro], id: MicroId, lambda: f64, t: f64) -> f64
+    ensures { result ≡ weight_now lambda t micros.now id }
 {
-    let k = lists::cut(n, MICROS);
-    let mut i: usize = 0;
-    while i < k {
-        let m = micros[i];
-        let held = m.id;
-        if held.0 == id.0 {
-            let body = m.body;
-            return body.faded_weight(lambda, t);
-        }
-        i += 1;
+    match micro_of(micros, id) {
+        Some(m) => m.body.faded_weight(lambda, t),
+        None => 0.0,
     }
-    0.0
 }
 
 // The mean of the weights of two.
-fn mean_weight(
-    micros: [DbMicro; MICROS],
-    n: usize,
-    a: MicroId,
-    b: MicroId,
-    lambda: f64,
-    t: f64,
-) -> f64
-    ensures { result ≡ mean_now lambda t (take n micros) a b }
+fn mean_weight(micros: &[DbMicro], a: MicroId, b: MicroId, lambda: f64, t: f64) -> f64
+    ensures { result ≡ mean_now lambda t micros.now a b }
 {
-    let wa = weight_now(micros, n, a, lambda, t);
-    let wb = weight_now(micros, n, b, lambda, t);
+    let wa = weight_now(micros, a, lambda, t);
+    let wb = weight_now(micros, b, lambda, t);
     (wa + wb) / 2.0
 }
 
 // The link of a and b, faded to t, over the mean of their weights; 0 without a link, and where the mean is 0.
-fn density(
-    links: [Link; LINKS],
-    count: usize,
-    a: MicroId,
-    b: MicroId,
-    mean: f64,
-    lambda: f64,
-    t: f64,
-) -> f64
-    ensures { result ≡ density_over lambda t mean (take count links) a b }
+fn density(links: &[Link], a: MicroId, b: MicroId, mean: f64, lambda: f64, t: f64) -> f64
+    ensures { result ≡ density_over lambda t mean links.now a b }
 {
     if mean == 0.0 {
         return 0.0;
     }
-    let n = lists::cut(count, LINKS);
-    let key = db_link::key_of(a, b, t);
-    let mut i: usize = 0;
-    while i < n {
-        let l = links[i];
-        if db_link::same_ends(l, key) {
-            return model::faded(l.value, lambda, t, l.last) / mean;
-        }
-        i += 1;
+    match link_of(links, &key_of(a, b, t)) {
+        Some(l) => model::faded(l.value, lambda, t, l.last) / mean,
+        None => 0.0,
     }
-    0.0
 }
 
 // The link of two live micro-clusters over the mean of their weights, link and weights as faded by now.
-pub fn connectivity(stream: DbStream, a: MicroId, b: MicroId) -> Result<f64, NotLive>
-    ensures { connectivity_said result ≡ connectivity_of (view stream) a b }
+pub fn connectivity(stream: &DbStream, a: MicroId, b: MicroId) -> Result<f64, NotLive>
+    ensures { connectivity_said result ≡ connectivity_of (view stream.now) a b }
 {
-    let n = stream.count;
-    let micros = stream.micros;
-    if are_live(micros, n, a, b) {
-        let lambda = stream.params.settings.lambda;
-        let t = stream.t;
-        let mean = mean_weight(micros, n, a, b, lambda, t);
-        let links = stream.links;
-        return Ok(density(links, stream.link_count, a, b, mean, lambda, t));
+    let micros = stream.held();
+    if !are_live(micros, a, b) {
+        return Err(NotLive);
     }
-    Err(NotLive)
+    let lambda = stream.params.settings.lambda;
+    let t = stream.t;
+    let mean = mean_weight(micros, a, b, lambda, t);
+    Ok(density(stream.held_links(), a, b, mean, lambda, t))
 }

@@ -12,18 +12,13 @@ use Rattle.model.specs.declared.micro.DbMicro.{DbMicro}
 use Rattle.model.specs.DbState.{State}
 use Rattle.model.specs.DbInsert.{id_of, is_held, pair_of}
 use Rattle.db_micro.specs.Held.{cut_to}
-use Rattle.db_link.specs.Among.{is_among}
-use Rattle.db_link.specs.Laws.Among.{among_held}
+use Rattle.db_micro.specs.Laws.Held.{held_view}
 use Rattle.db_readout.specs.Connectivity.{are_live, is_of, weighs, weight_now, mean_now, connectivity_of}
 
 -- ---- the micro-clusters of dim coordinates that an array holds
 module _ (dim : ℕ) (ms : List DbMicro) where
-  held_view : (id : MicroId) → is_held ms id ≡ is_held (map (cut_to dim) ms) id
-  held_view id =
-      sym (among_held ms id) ∙ ap (λ (ids : List MicroId). is_among ids id) (sym (map-map id_of (cut_to dim) ms)) ∙ among_held (map (cut_to dim) ms) id
-
   pub live_view : (a b : MicroId) → are_live ms a b ≡ are_live (map (cut_to dim) ms) a b
-  live_view a b = ap₂ (λ (p q : Bool). p && q && not (eqb a.0 b.0)) (held_view a) (held_view b)
+  live_view a b = ap₂ (λ (p q : Bool). p && q && not (eqb a.0 b.0)) (held_view dim ms a) (held_view dim ms b)
 
   module _ (lambda t : Float) where
     weight_view : (id : MicroId) → weight_now lambda t ms id ≡ weight_now lambda t (map (cut_to dim) ms) id

@@ -1,19 +1,21 @@
 -- `weight_now` meets its contract. Assumes nothing.
-use native.Mathlib.Omega.{arith}
-use borrow.Author.Tests.{eq-eqb, ne_eqb}
-use Rattle.lists.specs.Laws.Counted.{search_starts, search_finds, search_goes, search_ends}
+use Rattle.std.proofs.Common.{sym, ap, ◌∙◌, Option}
+use Rattle.std.specs.Option.{option_map_or}
+use Rattle.float.specs.Rounded.{nought}
+use Rattle.model.specs.declared.micro.DbMicro.{DbMicro}
+use Rattle.db_readout.specs.Connectivity.{is_of, weighs}
+use Rattle.db_readout.proofs.Found.{first_found}
 use Rattle.db_readout.proofs.connected.weight_now.Goals as goal
 
-pub loop-i-init : goal.loop-i-init
-loop-i-init c = search_starts c.cut-k.ensures (omega arith)
+pub returns-in-Some : goal.returns-in-Some
+returns-in-Some c =
+    let a = c.args in
+    let f = weighs a.lambda a.t in
+    c.faded_weight.ensures ∙ ap (λ (o : Option DbMicro). option_map_or f o nought) (sym c.in-Some.is ∙ c.micro_of.ensures)
+    ∙ first_found (is_of a.id) f nought a.micros.now
 
-pub returns-then-held-id : goal.returns-then-held-id
-returns-then-held-id c =
-    search_finds c.loop-i.invariant _ c.loop-i-test.true (eq-eqb _ _ c.if-held-id.true) c.faded_weight.ensures
-
-pub loop-i-preserved : goal.loop-i-preserved
-loop-i-preserved c =
-    search_goes c.loop-i.invariant _ c.loop-i-test.true (ne_eqb _ _ c.if-held-id.false)
-
-pub returns : goal.returns
-returns c = search_ends c.loop-i.invariant (omega arith)
+pub returns-in-None : goal.returns-in-None
+returns-in-None c =
+    let a = c.args in
+    let f = weighs a.lambda a.t in
+    ap (λ (o : Option DbMicro). option_map_or f o nought) (sym c.in-None.is ∙ c.micro_of.ensures) ∙ first_found (is_of a.id) f nought a.micros.now

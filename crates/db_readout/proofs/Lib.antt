@@ -1,0 +1,2 @@
+-- What only the proofs here use.
+pub mod Found
