@@ -1,7 +1,6 @@
 -- The micro-clusters that an array holds, and parts of them. Definitions only.
 use Rattle.std.specs.Prelude.{ℕ, Bool, List, map, Float, take}
 use Rattle.std.specs.Float.Ieee.{le}
-use Rattle.model.specs.declared.body.Body.{Body}
 use Rattle.model.specs.declared.micro.DbMicro.{DbMicro}
 use Rattle.model.specs.Body.{faded_weight, body_in}
 
@@ -12,9 +11,6 @@ cut_to dim m = record { body = body_in dim m.body; id = m.id }
 -- the first n, of dim coordinates
 abbrev pub held : (dim n : ℕ) → List DbMicro → List DbMicro
 held dim n ms = map (cut_to dim) (take n ms)
-
-abbrev pub body_of : DbMicro → Body
-body_of m = m.body
 
 -- "strong means faded weight ≥ min_weight"
 abbrev pub reaches : (lambda t weight : Float) → DbMicro → Bool

@@ -5,4 +5,4 @@ mod cleanup;
 mod parts;
 
 pub use cleanup::retained;
-pub use parts::{bodies, ids_of, strong_ones};
+pub use parts::{ids_of, strong_ones};

@@ -1,23 +1,16 @@
 // Single parts of the micro-clusters, in the order of the list.
 ghost use Rattle.std.specs.Prelude.{◌≡◌, length, map, take};
-ghost use Rattle.db_micro.specs.Held.{body_of, reaches};
+ghost use Rattle.db_micro.specs.Held.{reaches};
 ghost use Rattle.model.specs.DbInsert.{id_of};
 
 use lists::each;
-use model::{Body, DbMicro, MICROS, MicroId};
+use model::{DbMicro, MICROS, MicroId};
 
 // The creation numbers.
 pub fn ids_of(micros: &[DbMicro]) -> [MicroId; MICROS]
     ensures { take (length micros.now) result ≡ map id_of (take MICROS micros.now) }
 {
     each(micros, MicroId(0), |m| m.id)
-}
-
-// What both streams keep of each.
-pub fn bodies(micros: &[DbMicro]) -> [Body; MICROS]
-    ensures { take (length micros.now) result ≡ map body_of (take MICROS micros.now) }
-{
-    each(micros, Body::new(), |m| m.body)
 }
 
 // Which faded weights reach min_weight.

@@ -1,5 +1,5 @@
 -- What is said of the first element that a search finds. Assumes nothing.
-use Rattle.std.proofs.Common.{◌≡◌, refl, sym, ap, ◌∙◌, Bool, true, false, cond, List, [], ◌∷◌, Option, Some, None, find}
+use Rattle.std.proofs.Common.{◌≡◌, refl, Bool, true, false, cond, List, [], ◌∷◌, Some, find}
 use Rattle.std.specs.Option.{option_map_or}
 use Rattle.lists.specs.Search.{first_of}
 

@@ -2,7 +2,6 @@
 use Rattle.std.specs.Prelude.{ℕ, ◌≡◌, refl, ◌≢◌, Bool, true, false, not, ◌&&◌, cond, List, map, eqb, ltb, Float}
 use Rattle.std.proofs.Common.{arith, sym, ap, ap₂, ◌∙◌, ltb-true, ltb-false, eqb-true, eq-eqb, ne_eqb}
 use Rattle.std.proofs.Math.Bool.{and_comm, and-false}
-use Rattle.std.proofs.lemmas.Simd.{map-map}
 use Rattle.std.proofs.lemmas.Bool.{eqb-false}
 use Rattle.float.specs.Rounded.{◌⊕◌, ◌⊘◌, nought, two}
 use Rattle.float.specs.Laws.Sums.{⊕_comm}
@@ -10,7 +9,7 @@ use Rattle.lists.specs.Laws.Maps.{map_first}
 use Rattle.model.specs.declared.micro.MicroId.{MicroId}
 use Rattle.model.specs.declared.micro.DbMicro.{DbMicro}
 use Rattle.model.specs.DbState.{State}
-use Rattle.model.specs.DbInsert.{id_of, is_held, pair_of}
+use Rattle.model.specs.DbInsert.{is_held, pair_of}
 use Rattle.db_micro.specs.Held.{cut_to}
 use Rattle.db_micro.specs.Laws.Held.{held_view}
 use Rattle.db_readout.specs.Connectivity.{are_live, is_of, weighs, weight_now, mean_now, connectivity_of}
