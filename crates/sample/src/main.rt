@@ -7,7 +7,7 @@ const STDOUT: i32 = 1;
 
 fn main() {
     let mut output = [0u8; ROOM];
-    let written = sample_session::session(&mut output);
-    let n = written.count(&output);
-    io::write_all(STDOUT, &output[..n]);
+    if let Ok(n) = sample_session::session(&mut output) {
+        io::write_all(STDOUT, &output[..n]);
+    }
 }

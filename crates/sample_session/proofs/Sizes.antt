@@ -2,6 +2,7 @@
 use Prim.Native.Nat.{ℕ, zero, suc, ◌+◌, ◌*◌, ◌^◌, ◌<◌}
 use mathlib.Core.Path.{◌≡◌, refl}
 use mathlib.Core.List.{List, ◌++◌}
+use Rattle.std.specs.Prelude.{fold}
 use native.Mathlib.Nat.{le_of_lt, lt_of_le_of_lt, mul-le-mul_left, mul-lt-mul_of_pos_right}
 use native.Mathlib.Omega.{arith}
 use lib.ListN.{length, length-append}
@@ -50,3 +51,7 @@ size =
     (phase_of 1 0 44 225 9 0 0))
     (phase_of 1 18 0 200 24 0 0))
     (phase_of 96 4 0 285 2 8 3)
+
+-- the settings, and the readings of phases
+abbrev pub through : List Phase → List ℕ
+through phases = fold (λ (l : List ℕ) (p : Phase). l ++ phase_bytes p) settings_bytes phases

@@ -8,14 +8,14 @@ use Rattle.sample_session.proofs.add_reading.Goals as goal
 
 pub returns : goal.returns
 returns c =
-    let a = c.args in
-    let p = a.p in
-    let gain = ap (λ (u : Float). double_bytes (whole p.gain ⊖ whole p.loss ⊕ whole p.spread ⊗ u ⊕ walked p a.i))
+    let i = c.args.i in
+    let p = c.args.p.now in
+    let gain = ap (λ (u : Float). double_bytes (whole p.gain ⊖ whole p.loss ⊕ whole p.spread ⊗ u ⊕ walked p i))
     c.unit.ensures
     in
-    let swing = ap (λ (u : Float). double_bytes (whole p.amplitude ⊕ whole p.spread ⊗ u ⊖ walked p a.i))
+    let swing = ap (λ (u : Float). double_bytes (whole p.amplitude ⊕ whole p.spread ⊗ u ⊖ walked p i))
     c.unit-2.ensures
     in
     let error = ap (λ (u : Float). double_bytes (whole p.beat_error ⊕ whole p.spread ⊗ u)) c.unit-3.ensures in
-    both (both (worded gain c.add_double-rated.ensures) (worded swing c.add_double-swung.ensures))
-    (worded error c.add_double.ensures)
+    both (both (worded gain c.add_double.ensures) (worded swing c.add_double-2.ensures))
+    (worded error c.add_double-3.ensures)
