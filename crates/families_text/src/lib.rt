@@ -21,7 +21,7 @@ fn clustered_text(stream: DbStream) -> Text
     let micros = clustered.micros;
     let ids = db_micro::ids_of(micros, n);
     let mut labels = [-1i64; MICROS];
-    db_readout::labels(clustered, &mut labels);
+    db_readout::labels(&clustered, &mut labels);
     let report = clustered.drift();
     families_lines::listing(&ids[..n], &labels[..n], report)
 }

@@ -1,15 +1,8 @@
 // Laws of loops over lists, for every element type, in specs/; and functions over slices: a retain in place, and what a closure says of each element.
 #![tactic(auto)]
 
-ghost use Rattle.std.specs.Prelude.{◌≡◌, ◌≤◌, Bool, length, map, min, take};
+ghost use Rattle.std.specs.Prelude.{◌≡◌, ◌≤◌, Bool, length, map, take};
 ghost use Rattle.lists.specs.Retain.{AnswersBy, retain};
-
-// A count, cut to the places that there are.
-pub fn cut(n: usize, top: usize) -> usize
-    ensures { result ≡ min n top }
-{
-    if n < top { n } else { top }
-}
 
 // Moves the items at which `keep` answers `true` to the front, in their order, and counts them.
 pub fn retain<T: Copy, F: Fn(&T) -> bool>(items: &mut [T], keep: F) -> usize
