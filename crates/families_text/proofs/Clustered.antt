@@ -9,7 +9,8 @@ use lib.IntN.{ℤ}
 use lib.ListN.{length, take, length-take}
 use lib.Seq.{take-append_seam}
 use Rattle.lists.specs.Laws.Maps.{map_length}
-use Rattle.lists.specs.Laws.Rest.{cut_take}
+use Rattle.std.proofs.lemmas.List.{take_all}
+use Rattle.model.specs.declared.micro.DbMicro.{DbMicro}
 use Rattle.db_micro.specs.Held.{cut_to}
 use Rattle.dbstream.specs.declared.stream.DbStream.{DbStream}
 use Rattle.dbstream.specs.View.{view, dim_of}
@@ -37,20 +38,17 @@ pub few_ids :
     n ≤ micros_most
 few_ids s n ids l c e = omega (arith, ap length e, map_length id_of s.held.micros, length-take (length s.held.micros) ids)
 
--- the creation numbers of an array's micro-clusters are the view's
+-- the creation numbers of those held are the view's
 pub ids_are :
-    (s : DbStream) (n : ℕ) (ids : List MicroId) →
-    n ≡ length (view s).held.micros →
-    length s.micros ≡ micros_most →
-    take n ids ≡ map id_of (take n s.micros) →
+    (s : DbStream) (held : List DbMicro) (ids : List MicroId) →
+    held ≡ take s.count s.micros →
+    length held ≤ micros_most →
+    take (length held) ids ≡ map id_of (take micros_most held) →
     take (length (view s).held.micros) ids ≡ map id_of (view s).held.micros
-ids_are s n ids c l e =
-    let k : n ≡ min s.count micros_most =
-    c ∙ map_length (cut_to (dim_of s)) (take s.count s.micros) ∙ length-take s.count s.micros ∙ ap (min s.count) l
-    in
-    ap (λ (i : ℕ). take i ids) (sym c)
-    ∙ e
-    ∙ ap (map id_of) (cut_take n s.count micros_most s.micros k l)
+ids_are s held ids e few h =
+    ap (λ (i : ℕ). take i ids) (map_length (cut_to (dim_of s)) (take s.count s.micros) ∙ ap length (sym e))
+    ∙ h
+    ∙ ap (map id_of) (take_all micros_most held few ∙ e)
     ∙ sym (map-map id_of (cut_to (dim_of s)) (take s.count s.micros))
 
 -- one label for each

@@ -15,13 +15,11 @@ use text::{Text, TooShort};
 fn clustered_text(stream: DbStream) -> Text
     ensures { text_of result ≡ cluster_text (view stream) }
 {
-    let told = stream.cluster();
-    let clustered = told.stream;
+    let clustered = stream.cluster().stream;
     let n = clustered.micro_count();
-    let micros = clustered.micros;
-    let ids = db_micro::ids_of(micros, n);
-    let mut labels = [-1i64; MICROS];
-    db_readout::labels(&clustered, &mut labels);
+    let ids = db_micro::ids_of(clustered.held());
+    let mut labels = [-1; MICROS];
+    let _read = db_readout::labels(&clustered, &mut labels);
     let report = clustered.drift();
     families_lines::listing(&ids[..n], &labels[..n], report)
 }

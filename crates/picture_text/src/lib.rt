@@ -24,9 +24,9 @@ fn drawn(stream: DbStream) -> Text
     let mut centres = [0.0; CENTRES];
     let mut weights = [0.0; MICROS];
     let mut radii = [0.0; MICROS];
-    db_readout::micro_stats(&clustered, &mut centres, &mut weights, &mut radii);
-    let mut labels = [-1i64; MICROS];
-    db_readout::labels(&clustered, &mut labels);
+    let _stats = db_readout::micro_stats(&clustered, &mut centres, &mut weights, &mut radii);
+    let mut labels = [-1; MICROS];
+    let _labels = db_readout::labels(&clustered, &mut labels);
     let report = clustered.drift();
     let n = clustered.micro_count();
     let mut text = Text::new();

@@ -13,20 +13,20 @@ use Rattle.families_text.proofs.clustered_text.Goals as goal
 pub returns : goal.returns
 returns c =
     let s = c.args in
-    let u = c.cluster-told.result.stream in
+    let u = c.cluster.result.stream in
     let n = c.micro_count-n in
     let ids = c.ids_of-ids in
-    let labels = c.labels in
+    let labels = c.labels-read in
     let report = c.drift-report in
     let named : length ids.result ≡ micros_most = search rules in
     let few : length (take n.result ids.result) ≤ micros_most = omega (arith, named, length-take n.result ids.result) in
-    let places : length u.micros ≡ micros_most = search rules in
+    let held = c.held in
     c.listing.ensures.whole few
     ∙ text_is (view s.stream) (view u) n.result ids.result labels.result labels.new.out (replicate micros_most (negsuc 0))
-    report.result named refl c.cluster-told.ensures.stream_value
+    report.result named refl c.cluster.ensures.stream_value
     (record {
       count = n.ensures;
-      names = ids_are u n.result ids.result n.ensures places ids.ensures;
+      names = ids_are u held.result.now ids.result held.ensures.value held.ensures.few ids.ensures;
       told = labels.ensures;
       drift = report.ensures;
     })

@@ -20,8 +20,8 @@ pub returns : goal.returns
 returns c =
     let s = c.args.stream in
     let u = c.cluster-told.result.stream in
-    let f = c.micro_stats in
-    let l = c.labels in
+    let f = c.micro_stats-stats in
+    let l = c.labels-labels in
     let d = c.drift-report in
     let n = c.micro_count-n in
     let figures = statistics_told f.result f.new.centres f.new.weights f.new.radii in
