@@ -1,17 +1,15 @@
 -- Micro-clusters marked one after another. Assumes nothing.
 use Prim.Native.Nat.{ℕ, ◌+◌, ◌*◌, ◌<◌}
 use mathlib.Core.Path.{◌≡◌, sym, ap, ap₂, ◌∙◌}
-use mathlib.Core.Bool.{Bool, true, false, cond}
 use native.Mathlib.Numerals.{add-one}
 use native.Mathlib.Omega.{arith}
-use lib.ListN.{get_or, set}
 use lib.Ieee.{Float, neg}
 use Rattle.float.specs.Rounded.{two, whole}
 use Rattle.picture_grid.specs.declared.grid.Plot.{Plot}
 use Rattle.picture_lines.specs.declared.row.Row.{Row}
 use Rattle.picture_grid.specs.declared.upward.Upward.{Upward}
 use Rattle.picture_grid.specs.Upward.{low_of, step_of}
-use Rattle.picture_lines.specs.Plot.{upward_of, sixty, cell_of, place_of, is_hidden, over_of, marked, plot_of}
+use Rattle.picture_lines.specs.Plot.{upward_of, sixty, cell_of, place_of, marked, plot_of}
 
 -- one more
 pub mark_more :
@@ -35,20 +33,3 @@ pub placed :
 placed up row low step x line column l s f e g =
     let height : line ≡ cell_of (whole (low_of up)) (whole (step_of up)) 20 (upward_of up row) = rw (← l, ← s, ← f) e in
     (ap₂ (λ (a b : ℕ). a * 63 + b) height g, omega arith)
-
--- a micro-cluster is counted or marked
-module _ (up : Upward) (plot : Plot) (row : Row) where
-  abbrev told : (hidden : Bool) (place mark : ℕ) → Plot
-  told hidden place mark =
-      cond hidden (record { cells = plot.cells; hidden = plot.hidden + 1 }) (record { cells = set plot.cells place mark; hidden = plot.hidden })
-
-  pub not_shown : is_hidden up row ≡ true → record { cells = plot.cells; hidden = plot.hidden + 1 } ≡ marked up plot row
-  not_shown e = ap (λ (b : Bool). told b (place_of up row) (over_of (get_or plot.cells (place_of up row) 0) row.mark)) (sym e)
-
-  pub shown :
-      is_hidden up row ≡ false → (place mark : ℕ) → place ≡ place_of up row → mark ≡ over_of (get_or plot.cells place 0) row.mark →
-      record { cells = set plot.cells place mark; hidden = plot.hidden } ≡ marked up plot row
-  shown e place mark p m =
-      ap (told false place) m
-      ∙ ap (λ (k : ℕ). told false k (over_of (get_or plot.cells k 0) row.mark)) p
-      ∙ ap (λ (b : Bool). told b (place_of up row) (over_of (get_or plot.cells (place_of up row) 0) row.mark)) (sym e)

@@ -64,7 +64,7 @@ fn row_at(centres: &[f64], weights: &[f64], labels: &[i64], i: usize) -> Row
     }
 }
 
-// A row for each place. A loop: of array::from_fn std's contracts do not say that a closure keeps what it captured.
+// A row for each place. A loop: through array::from_fn, whose contract forgets what the closure captured, the proof did not close.
 pub(crate) fn rows_of(centres: &[f64], weights: &[f64], labels: &[i64]) -> [Row; MICROS]
     ensures { result ≡ map (row_at centres.now weights.now labels.now) (range_with_len 0 micros_most) }
 {

@@ -67,8 +67,8 @@ page_first centres weights labels n alarms h =
     let l : length (take n labels) ≡ n = omega (arith, length-take n labels) in
     ap (λ (k : ℕ). page_of (min k micros_most) centres weights (take n labels) alarms) l
     ∙ ap (λ (t : List ℕ). cond (eqb (min n micros_most) 0) (ascii "no reading is held\n" ++ alarm_of alarms) t)
-      (held_same (row_at centres weights (take n labels)) (row_at centres weights labels) (min n micros_most) alarms
-      (λ (i : ℕ) (k : i < min n micros_most). let j : i < n = omega arith in ap (row_by i) (get_or-take n labels i (pos 0) j)))
+    (held_same (row_at centres weights (take n labels)) (row_at centres weights labels) (min n micros_most) alarms
+    (λ (i : ℕ) (k : i < min n micros_most). let j : i < n = omega arith in ap (row_by i) (get_or-take n labels i (pos 0) j)))
   where
     row_by : ℕ → ℤ → Row
     row_by i label =
