@@ -1,25 +1,24 @@
 -- Which session an input gives, question by question. Assumes nothing.
-use Prim.Native.Nat.{ℕ, ◌%◌, ◌≤◌}
-use mathlib.Core.Path.{◌≡◌, refl, sym, ap, ap₂, ◌∙◌, subst}
-use mathlib.Core.Bool.{Bool, true, false, ◌&&◌, cond}
-use mathlib.Core.List.{List, [], ◌∷◌}
-use native.Mathlib.Omega.{arith}
-use lib.Dec.{T, eqb, leb, leb→le}
+use Rattle.std.specs.Prelude.{ℕ, ◌≡◌, ◌-◌, ◌*◌, ◌/◌, ◌≤◌, refl, Bool, true, false, ◌&&◌, cond, List, [], ◌∷◌, length, take, drop, leb, Ok, Err}
+use Rattle.std.proofs.Common.{sym, ap, ap₂, ◌∙◌, subst, true≢false, length-drop}
+use Rattle.std.proofs.Math.Seq.{take-length}
+use lib.Dec.{T, leb→le}
 use lib.Ieee.Fits.{and_l, and_r}
-use lib.ListN.{length}
-use Rattle.model.specs.Answers.{opening_number, is_open, Opening}
+use Rattle.words.specs.Word.{word_at}
+use Rattle.model.specs.declared.answers.OpenError.{OpenError}
+use Rattle.model.specs.declared.answers.OpenError.TheVariants.{Dim, Radius, Lambda, Share, Weight, BetaMu}
+use Rattle.model.specs.Answers.{open_error_number, opening_number, is_open, Opening}
 use Rattle.model.specs.Questions.{dim_in_range, positive, lambda_in_range, share_in_range, first_no}
 use Rattle.model.specs.Outcome.{Opened, Outcome}
 use Rattle.model.specs.Stream as stream
 use Rattle.model.specs.DbState.{Settings, State}
 use Rattle.model.specs.Dbstream.{open_of}
-use Rattle.input_session.specs.Input.{input_most, head_size, settings_in, points_in, is_whole}
+use Rattle.input_session.specs.Input.{head_size, settings_in, points_from, points_in, is_whole}
 use Rattle.input_session.specs.Session.{Ran, ran, insert_all, inserted_ran, opened_ran, ran_of}
-use Rattle.model.specs.declared.answers.OpenError.TheVariants.{Dim, Radius, Lambda, Share, Weight}
-use Rattle.std.specs.Prelude.{Ok, Err}
+use Rattle.input_session.proofs.Runs.{points, points_behind}
 
 -- an opening that is accepted has dim in range
-pub open_dim : (p : Settings) (o : Opened State) → o ≡ open_of p → is_open o.answer ≡ true → dim_in_range p.dim ≡ true
+open_dim : (p : Settings) (o : Opened State) → o ≡ open_of p → is_open o.answer ≡ true → dim_in_range p.dim ≡ true
 unfolding stream.asked
 open_dim p o e h = go (dim_in_range p.dim) (sym (ap (λ (q : Opened State). is_open q.answer) e) ∙ h)
   where
@@ -31,7 +30,34 @@ open_dim p o e h = go (dim_in_range p.dim) (sym (ap (λ (q : Opened State). is_o
 
     go : (b : Bool) → is_open (cond b rest (Err Dim)) ≡ true → b ≡ true
     go true q = refl
-    go false q = absurd (let z : ◌≡◌ {A = ℕ} 0 1 = cc in omega arith)
+    go false q = absurd (true≢false (sym q))
+
+pub in_range : (p : Settings) (o : Opened State) → o ≡ open_of p → o.answer ≡ Ok tt → (1 ≤ p.dim) × (p.dim ≤ 15)
+in_range p o e h =
+    let t : T (leb 1 p.dim && leb p.dim 15) = subst T (sym (open_dim p o e (ap is_open h))) tt in
+    (leb→le 1 p.dim (and_l (leb 1 p.dim) (leb p.dim 15) t), leb→le p.dim 15 (and_r (leb 1 p.dim) (leb p.dim 15) t))
+
+not_opened : (e : OpenError) → is_open (Err e) ≡ false
+not_opened Dim = refl
+not_opened Radius = refl
+not_opened Lambda = refl
+not_opened Share = refl
+not_opened Weight = refl
+not_opened BetaMu = refl
+
+-- the points are in the bytes behind the settings
+abbrev pub behind : List ℕ → List ℕ
+behind bytes = take (length bytes - head_size) (drop head_size bytes)
+
+points_are : (bytes : List ℕ) → points (word_at bytes 0) (behind bytes) ≡ points_in bytes
+points_are bytes =
+    let dim = word_at bytes 0 in
+    let all : behind bytes ≡ drop head_size bytes =
+    ap (λ (n : ℕ). take n (drop head_size bytes)) (sym (length-drop head_size bytes)) ∙ take-length (drop head_size bytes)
+    in
+    ap (points dim) all
+    ∙ ap (λ (n : ℕ). points_from (n / (dim * 8)) dim (drop head_size bytes) 0) (length-drop head_size bytes)
+    ∙ points_behind ((length bytes - head_size) / (dim * 8)) dim head_size bytes 0
 
 module _ (bytes : List ℕ) (o : Opened State) (e : o ≡ open_of (settings_in bytes)) where
   abbrev known : Bool → Opened State → Ran
@@ -45,22 +71,21 @@ module _ (bytes : List ℕ) (o : Opened State) (e : o ≡ open_of (settings_in b
   not_whole w = ap (λ (b : Bool). known b o) (sym w) ∙ is
 
   module _ (w : is_whole bytes ≡ true) where
-    pub whole_head : head_size ≤ length bytes
-    whole_head =
-        leb→le head_size (length bytes)
-        (first (leb (length bytes) input_most) (leb head_size (length bytes)) (eqb (length bytes % 8) 0) _ (subst T (sym w) tt))
-      where
-        first : (a b c d : Bool) → T (a && b && c && d) → T b
-        first a b c d t = and_r a b (and_l (a && b) c (and_l (a && b && c) d t))
-
     whole : opened_ran o (points_in bytes) ≡ ran_of bytes
     whole = ap (λ (b : Bool). known b o) (sym w) ∙ is
 
     abbrev asked_of : Bool → Outcome State → Ran
     asked_of b q = cond b (inserted_ran q) (ran (opening_number o.answer) o.stream)
 
-    pub not_open : is_open o.answer ≡ false → ran (opening_number o.answer) o.stream ≡ ran_of bytes
-    not_open h = ap (λ (b : Bool). asked_of b (insert_all o.stream (points_in bytes))) (sym h) ∙ whole
+    pub not_open : (r : OpenError) → o.answer ≡ Err r → ran (open_error_number r) o.stream ≡ ran_of bytes
+    not_open r h =
+        ap (λ (a : Opening). ran (opening_number a) o.stream) (sym h)
+        ∙ ap (λ (b : Bool). asked_of b (insert_all o.stream (points_in bytes))) (sym (ap is_open h ∙ not_opened r))
+        ∙ whole
 
-    pub inserted : is_open o.answer ≡ true → (q : Outcome State) → q ≡ insert_all o.stream (points_in bytes) → inserted_ran q ≡ ran_of bytes
-    inserted h q i = ap₂ asked_of (sym h) i ∙ whole
+    pub inserted :
+        o.answer ≡ Ok tt → (dim : ℕ) → dim ≡ word_at bytes 0 → (q : Outcome State) → q ≡ insert_all o.stream (points dim (behind bytes)) →
+        inserted_ran q ≡ ran_of bytes
+    inserted h dim d q i =
+        let p : points dim (behind bytes) ≡ points_in bytes = rw d (points_are bytes) in
+        ap₂ asked_of (sym (ap is_open h)) (i ∙ ap (insert_all o.stream) p) ∙ whole

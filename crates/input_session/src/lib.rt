@@ -2,50 +2,39 @@
 #![tactic(auto)]
 
 mod parse;
+mod refusal;
 mod run;
 
 ghost use Rattle.std.specs.Prelude.{◌≡◌};
+ghost use Rattle.input_session.specs.Refused.{run_number};
 ghost use Rattle.input_session.specs.Session.{ran_of};
 ghost use Rattle.input_session.specs.Told.{ran_told};
 
 use dbstream::DbStream;
-use words::word_at;
+pub use refusal::Refusal;
 
-// The number of the refusal of an input that is not settings and whole points.
-const INPUT_REFUSED: u64 = 11;
-
-// The number of the first refusal, 0 where there is none, and the stream as far as it came.
+// The first refusal, and the stream as far as it came.
 #[derive(Clone, Copy)]
 pub struct Session {
-    pub number: u64,
+    pub answer: Result<(), Refusal>,
     pub stream: DbStream,
+}
+
+impl Session {
+    // The refusal's number, or 0.
+    pub fn number(&self) -> u64
+        ensures { result ≡ run_number self.now.answer }
+    {
+        model::number_of(self.answer)
+    }
 }
 
 // The input is asked about first, then the opening, then each insert; the first refusal ends the session.
 pub fn session_of(input: &[u8]) -> Session
     ensures { ran_told result ≡ ran_of input.now }
 {
-    let opened = run::open_stream(input);
-    let fresh = opened.stream;
-    if !parse::is_whole(input) {
-        return Session {
-            number: INPUT_REFUSED,
-            stream: fresh,
-        };
-    }
-    let opening = opened.answer;
-    if opening.is_err() {
-        return Session {
-            number: model::number_of(opening),
-            stream: fresh,
-        };
-    }
-    let dim = word_at(input, 0) as usize;
-    let inserted = run::insert_all(fresh, input, dim);
-    let answer = inserted.answer;
-    let stream = inserted.stream;
-    Session {
-        number: model::number_of(answer),
-        stream,
-    }
+    let opened = DbStream::new(parse::settings(input));
+    let mut stream = opened.stream;
+    let answer = run::run(&mut stream, opened.answer, input);
+    Session { answer, stream }
 }

@@ -1,56 +1,47 @@
-// A stream is opened and takes the points.
-ghost use Rattle.std.specs.Prelude.{◌≡◌, ◌-◌, ◌*◌, ◌/◌, ◌≤◌, length};
+// The input's points are taken, one after another.
+ghost use Rattle.std.specs.Prelude.{◌≡◌, ◌*◌, ◌/◌, ◌≤◌, length};
 ghost use Rattle.model.specs.Dbstream.{open_of};
-ghost use Rattle.dbstream.specs.View.{view, opened_told, inserted_told};
-ghost use Rattle.input_session.specs.Input.{head_size, settings_in, points_from};
-ghost use Rattle.input_session.specs.Session.{insert_all};
+ghost use Rattle.dbstream.specs.View.{view};
+ghost use Rattle.input_session.specs.Input.{settings_in, points_from};
+ghost use Rattle.input_session.specs.Refused.{run_number};
+ghost use Rattle.input_session.specs.Session.{insert_all, ran, ran_of};
 
-use crate::parse::{HEAD, WORD, double_at, point};
-use dbstream::{DbStream, Inserted, Opened};
-use model::DbSettings;
+use crate::parse::{self, HEAD, WORD};
+use crate::refusal::Refusal;
+use dbstream::DbStream;
+use model::{InsertError, OpenError};
 use words::word_at;
 
-// The stream that the settings open.
-pub(crate) fn open_stream(bytes: &[u8]) -> Opened
-    ensures { opened_told result ≡ open_of (settings_in bytes.now) }
+// Every point, until one is refused.
+fn insert_all(stream: &mut DbStream, points: &[u8], dim: usize) -> Result<(), InsertError>
+    requires { (1 ≤ dim) × (dim ≤ 15) }
+    ensures { record { answer = result; stream = view stream.new }
+        ≡ insert_all (view stream.old) (points_from (length points.now / (dim * 8)) dim points.now 0) }
 {
-    let dim = word_at(bytes, 0) as usize;
-    let r = double_at(bytes, 8);
-    let lambda = double_at(bytes, 16);
-    let alpha = double_at(bytes, 24);
-    let min_weight = double_at(bytes, 32);
-    DbStream::new(DbSettings {
-        dim,
-        r,
-        lambda,
-        alpha,
-        min_weight,
-    })
+    for bytes in points.chunks_exact(dim * WORD) {
+        let point = parse::point(bytes, dim);
+        let inserted = stream.try_insert(&point[..dim]);
+        *stream = inserted.stream;
+        let answer = inserted.answer;
+        answer?;
+    }
+    Ok(())
 }
 
-// Every point, until one is refused.
-pub(crate) fn insert_all(stream: DbStream, bytes: &[u8], dim: usize) -> Inserted
-    requires { (1 ≤ dim) × (dim ≤ 15) × (head_size ≤ length bytes.now) }
-    ensures { inserted_told result ≡ insert_all (view stream)
-        (points_from ((length bytes.now - head_size) / (dim * 8)) dim bytes.now head_size) }
+// Of a stream that the input's settings opened, with the opening's answer.
+pub(crate) fn run(
+    stream: &mut DbStream,
+    opening: Result<(), OpenError>,
+    input: &[u8],
+) -> Result<(), Refusal>
+    requires { record { answer = opening; stream = view stream.old } ≡ open_of (settings_in input.now) }
+    ensures { ran (run_number result) (view stream.new) ≡ ran_of input.now }
 {
-    let step = dim * WORD;
-    let mut left = (bytes.len() - HEAD) / step;
-    let mut at = HEAD;
-    let mut s = stream;
-    while left > 0 {
-        let x = point(bytes, at, dim);
-        let r = s.try_insert(&x[..dim]);
-        s = r.stream;
-        let answer = r.answer;
-        if answer.is_err() {
-            return Inserted { answer, stream: s };
-        }
-        at += step;
-        left -= 1;
+    if !parse::is_whole(input) {
+        return Err(Refusal::Input);
     }
-    Inserted {
-        answer: Ok(()),
-        stream: s,
-    }
+    opening?;
+    let dim = word_at(input, 0) as usize;
+    insert_all(stream, &input[HEAD..], dim)?;
+    Ok(())
 }
