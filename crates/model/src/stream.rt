@@ -1,5 +1,5 @@
 // What DBSTREAM and DenStream have in common: each is a stream of its kind.
-ghost use Rattle.std.specs.Prelude.{◌≡◌, ℕ, length};
+ghost use Rattle.std.specs.Prelude.{◌≡◌, length};
 ghost use Rattle.drift.specs.Monitor.{report_of};
 ghost use Rattle.model.specs.Stream.{State, Kind, open_of, insert_of, cluster_of, finds_of, steps_of};
 ghost use Rattle.model.specs.Told.{opened_told, inserted_told};
