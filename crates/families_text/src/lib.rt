@@ -29,7 +29,7 @@ fn text_of(input: &[u8]) -> Text
     ensures { text_of result ≡ families_text input.now }
 {
     let session = input_session::session_of(input);
-    let number = session.number;
+    let number = session.number();
     if number != 0 {
         return text::refused(number);
     }
