@@ -9,4 +9,5 @@ mod opening;
 mod stream;
 mod tick;
 
+pub use model::{Clustered, Inserted, Opened};
 pub use stream::DbStream;
