@@ -1,6 +1,5 @@
 -- What only the proofs here use.
 pub mod Openings
 pub mod Cleanups
-pub mod Places
 pub mod Inserts
 pub mod Labels
