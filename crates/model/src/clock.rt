@@ -10,12 +10,11 @@ use drift::DriftMonitor;
 fn ticks(x: f64) -> u64
     ensures { result ≡ ticks_of x }
 {
-    if x > 0.0 {
-        if x < 9223372036854775808.0 {
-            return std::num::truncating_f64_to_u64(x);
-        }
+    if x > 0.0 && x < 9223372036854775808.0 {
+        std::num::truncating_f64_to_u64(x)
+    } else {
+        0
     }
-    0
 }
 
 // Whether the clock is a multiple of a period.
@@ -23,11 +22,7 @@ fn is_multiple(t: f64, period: f64) -> bool
     ensures { result ≡ is_multiple t period }
 {
     let p = ticks(period);
-    let never = p == 0;
-    if never {
-        return false;
-    }
-    ticks(t) % p == 0
+    p != 0 && ticks(t) % p == 0
 }
 
 // The tick, and the ticks between two prunings. The monitor is no part of it: it would be copied in and out.
@@ -37,7 +32,7 @@ pub struct Clock {
     pub period: f64,
 }
 
-// The time and the monitor after a tick, and whether a pruning is due.
+// The time and the monitor after a tick, and whether a pruning is due. The flag is no Option: the others are there either way.
 #[derive(Clone, Copy)]
 pub struct Ticked {
     pub t: f64,
