@@ -8,12 +8,11 @@ mod den;
 mod taker;
 mod window;
 
-use std::io;
-
-fn main(rt: HostRuntime) -> io::Result<()> {
-    window::last_values(&rt)?;
-    db::last_inserts(&rt)?;
-    db::slowest_cleanup(&rt)?;
-    den::last_inserts(&rt)?;
-    den::slowest_pruning(&rt)
+// A failed write is passed over.
+fn main(rt: HostRuntime) {
+    let _window = window::last_values(&rt);
+    let _db = db::last_inserts(&rt);
+    let _cleanup = db::slowest_cleanup(&rt);
+    let _den = den::last_inserts(&rt);
+    let _pruning = den::slowest_pruning(&rt);
 }

@@ -14,9 +14,12 @@ impl From<io::Error> for Malformed {
     }
 }
 
-// The next operation; none at the end of the input.
+// The next operation; none at the end of the input, or where it ends in a failed read.
 pub fn next_operation(input: &mut impl BufRead) -> Result<Option<Operation>, Malformed> {
-    if input.fill_buf()?.is_empty() {
+    let Ok(ahead) = input.fill_buf() else {
+        return Ok(None);
+    };
+    if ahead.is_empty() {
         return Ok(None);
     }
     let number = read_word(input)?;

@@ -6,26 +6,26 @@
 mod function;
 
 use function::Function;
-use std::io;
 use std::io::Read;
 use words::{Bits, double_of, read_word};
 
-// Two words, a function's number and its argument's bits; none where the input ends or no function has that number.
+// The most records that are read.
+const RECORDS: usize = 65536;
+
+// Two words, a function's number and its argument's bits; none where the input ends.
 fn record(input: &mut impl Read) -> Option<(Function, f64)> {
     let number = read_word(input).ok()?;
     let bits = read_word(input).ok()?;
-    let function = Function::try_from(number).ok()?;
-    Some((function, double_of(bits)))
+    Some((Function::from(number), double_of(bits)))
 }
 
-fn main(rt: HostRuntime) -> io::Result<()> {
+// A failed write is passed over.
+fn main(rt: HostRuntime) {
     let mut input = rt.reader();
-    // More turns than any input has records.
-    for _ in 0..u64::MAX {
+    for _ in 0..RECORDS {
         let Some((function, x)) = record(&mut input) else {
-            break;
+            return;
         };
-        println!(rt; "{function} {} {}", Bits(x), Bits(function.of(x)))?;
+        let _said = println!(rt; "{function} {} {}", Bits(x), Bits(function.of(x)));
     }
-    Ok(())
 }
