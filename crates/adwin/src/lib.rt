@@ -16,6 +16,7 @@ use adwin_buckets::{CutTest, some_fails};
 
 // The window. The buckets are the first `count` of the array, oldest first, each with its class:
 // a bucket of class c has 2^c values. The classes have an array of their own, since the cut search is lent buckets alone.
+// Arrays and a count, since there is no heap; any count is taken, so each step that needs it within the places says so.
 #[derive(Clone, Copy)]
 pub struct Adwin {
     pub delta: f64,
@@ -237,7 +238,7 @@ impl Adwin {
         self.width >= 2.0 * Self::SIDE && some_fails(self.cut_test(), self.held())
     }
 
-    // The cut search: the oldest bucket goes while a cut fails.
+    // The cut search: the oldest bucket goes while a cut fails. A while, since each drop decides whether there is another.
     fn shrink(&mut self) -> Verdict
         requires { self.old.count ≤ places }
         ensures { outcome_with (Ok result) self.new ≡ shrunk (view self.old) }

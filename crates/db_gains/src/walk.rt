@@ -72,7 +72,8 @@ impl Walk {
         self.key = key;
     }
 
-    // The key's link gains, or a new one goes to its place, where there is room; how many there are now.
+    // The key's link gains, or a new one goes to its place, where there is room; how many there are now. The whole array and
+    // the count, since a new one needs a place behind those that are there.
     pub(crate) fn gain(
         &mut self,
         links: &mut [Link; LINKS],

@@ -12,7 +12,7 @@ ghost use Rattle.db_neighbours.specs.Scanned.{scan_told, scan_of};
 use crate::nearest::least;
 use model::{DbMicro, MICROS, MicroId};
 
-// The distances, the least of them, and the neighbours' creation numbers, of which count are there.
+// The distances, the least of them, and the neighbours' creation numbers, of which the first count are there: there is no heap.
 #[derive(Clone, Copy)]
 pub struct Scan {
     pub distances: [f64; MICROS],

@@ -9,7 +9,8 @@ ghost use Rattle.dbstream.specs.View.{view};
 use crate::stream::DbStream;
 use model::{DbMicro, LINKS, Link, MICROS};
 
-// The first count links that lost no end and did not fade below floor, in front; how many they are.
+// The first count links that lost no end and did not fade below floor, in front; how many they are. A function, since a part
+// of one field's array is not lent to be changed while another field is lent.
 fn links_left(
     links: &mut [Link; LINKS],
     count: usize,

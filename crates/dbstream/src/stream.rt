@@ -7,7 +7,7 @@ use drift::{DriftMonitor, DriftReport};
 use feature::MAX_DIM;
 use model::{DbMicro, DbParams, LINKS, Link, MICROS, MicroId};
 
-// The arrays hold as many elements as their counts say; links stand in the order of their ends' creation numbers.
+// Arrays with counts of what they hold, since there is no heap; links stand in the order of their ends' creation numbers.
 #[derive(Clone, Copy)]
 pub struct DbStream {
     pub params: DbParams,

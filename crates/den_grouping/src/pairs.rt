@@ -11,7 +11,7 @@ use model::{DenMicro, LINKS};
 // As many as there can be links.
 pub(crate) const PAIRS: usize = LINKS;
 
-// Behind count pairs those of place i with the places after it; how many there are then.
+// Behind count pairs those of place i with the places after it; how many there are then: a list that grows without a heap.
 fn pair_row(
     pool: &[DenMicro],
     i: usize,

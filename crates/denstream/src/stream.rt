@@ -8,7 +8,7 @@ use drift::{DriftMonitor, DriftReport};
 use feature::MAX_DIM;
 use model::{DenMicro, DenParams, MICROS};
 
-// The arrays hold as many elements as their counts say, the pools never more than 64 together.
+// Arrays with counts of what they hold, since there is no heap; the pools never have more than 64 together.
 #[derive(Clone, Copy)]
 pub struct DenStream {
     pub params: DenParams,

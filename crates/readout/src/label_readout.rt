@@ -31,7 +31,7 @@ fn stands_in(label: &i64, labels: &[i64]) -> bool
     labels.iter().any(|other| same_family(label, other))
 }
 
-// How many different labels there are, -1 left out: each is counted where it stands last.
+// How many different labels there are, -1 left out: each is counted where it stands last. No iterator gives a label with those behind it.
 pub fn n_clusters(labels: &[i64]) -> usize
     ensures { result ≡ clusters_in labels.now }
 {

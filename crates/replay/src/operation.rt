@@ -6,7 +6,7 @@ use words::double_of;
 // The most operands of a record.
 pub const OPERANDS: usize = 64;
 
-// A point's coordinates, as many as the record had.
+// A point's coordinates, as many as the record had, in room for the most: there is no heap.
 #[derive(Clone, Copy)]
 pub struct Point {
     xs: [f64; OPERANDS],

@@ -7,7 +7,7 @@ use itoa::Buffer;
 // Room for every text of the programs: `families` has 64 lines of at most 43 bytes and a last one of at most 56, a picture at most 9,628 bytes.
 pub const ROOM: usize = 16384;
 
-// The first `len` of the bytes.
+// The first `len` of the bytes: a text without a heap.
 #[derive(Clone, Copy)]
 pub struct Text {
     pub bytes: [u8; ROOM],

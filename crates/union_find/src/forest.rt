@@ -93,7 +93,7 @@ impl UnionFind {
         }
     }
 
-    // The root of x; each place met on the way up gets its grandparent for a parent.
+    // The root of x; each place met on the way up gets its grandparent for a parent. A while, since the way is no list.
     fn find(&mut self, x: usize) -> Reached
         requires sound { Sound self.old }
         requires place { x < places }

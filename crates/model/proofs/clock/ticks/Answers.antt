@@ -17,6 +17,6 @@ returns-then-x-2 c = rw (c.if-x.true, c.if-x-2.true) c.truncating_f64_to_u64.ens
 pub returns-else-x : goal.returns-else-x
 unfolding ticks_of
 returns-else-x c = elim c.else-x.branch [
-    else-x-via-then-x+else-x-2 w ↦ rw (w.if-x.true, w.if-x-2.false)
-    | else-x-via-else-x w ↦ rw w.if-x.false
+  | else-x-via-then-x+else-x-2 w ↦ rw (w.if-x.true, w.if-x-2.false)
+  | else-x-via-else-x w ↦ rw w.if-x.false
 ]
