@@ -1,13 +1,12 @@
 -- What std's methods of `f64` give is what the definitions say. Assumes nothing.
-use Rattle.std.proofs.Common.{◌≡◌, ℕ, zero, suc, ◌+◌, ◌-◌, ◌*◌, ◌/◌, ◌%◌, ◌<◌, Bool, true, false, cond, T, eqb, ℤ, sym, refl, ap, ◌∙◌, add-mul, div-add-mod', mod-lt, true≢false, arith, eqb→eq}
+use Rattle.std.proofs.Common.{◌≡◌, ℕ, zero, suc, ◌+◌, ◌-◌, ◌*◌, ◌/◌, ◌%◌, ◌<◌, Bool, true, false, cond, T, eqb, ℤ, refl, ap, ◌∙◌, add-mul, div-add-mod', mod-lt, true≢false, arith, eqb→eq}
 use Rattle.std.proofs.lemmas.Nat.{div-mul-add}
-use Rattle.std.specs.Float.{Float, nan, inf, fin, binary64, ratio_ceil, float_is_finite, trunc, ceil, round_with}
+use Rattle.std.specs.Float.{Float, nan, inf, fin, binary64, ratio_ceil, float_is_finite, ceil, round_with}
 use lib.Ieee.{up, down, fits, neg, round, of_int}
 use lib.Ieee.Fits.{down_pos, round-fits}
 use lib.Ieee.Back.{whole_unique}
 use Rattle.float.specs.Rounded.{whole}
 use Rattle.float.specs.Order.{is_finite}
-use Rattle.float.specs.Cut.{cut_of}
 use Rattle.float.specs.Ceil.{ceil_of}
 use Rattle.float.specs.Laws.Opened.{round_neg}
 use Rattle.float.specs.Laws.TowardsZero.{whole_part, fits_plus}
@@ -17,13 +16,6 @@ unfolding float_is_finite
 finite_same nan = refl
 finite_same (inf s) = refl
 finite_same (fin s m e) = refl
-
-pub trunc_same : (x : Float) → trunc binary64 x ≡ cut_of x
-unfolding round_with cut_of of_int
-trunc_same nan = refl
-trunc_same (inf s) = refl
-trunc_same (fin false m e) = refl
-trunc_same (fin true m e) = round_neg binary64 (m * up e / down e) 1
 
 -- ---- ceil: a fraction n / d rounded up, without a rest and with one
 without_rest : (n d : ℕ) → 0 < d → n % d ≡ 0 → ratio_ceil n d ≡ n / d

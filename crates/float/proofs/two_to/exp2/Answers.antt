@@ -22,6 +22,9 @@ limit : neg (of_bits binary64 0x408f_f000_0000_0000) ≡ least
 unfolding of_bits of_int neg round
 limit = refl
 
+pub cut-k-requires : goal.cut-k-requires
+cut-k-requires c = subst T (sym c.if-y.true) tt
+
 pub returns-then-k : goal.returns-then-k
 returns-then-k c =
     sym (by_tests c.args.y c.cut-k.result true true c.if-y.true c.cut-k.ensures (rw limit at c.if-k.true))
