@@ -1,6 +1,6 @@
 -- What a read from outside leaves in a lent slice. Definition only.
 use Rattle.std.specs.Prelude.{ℕ, ◌≤◌, ◌≡◌, List, Result, length}
-use Rattle.text.specs.declared.writing.TooShort.{TooShort}
+use Rattle.model.specs.declared.answers.TooShort.{TooShort}
 use Rattle.text.specs.Lent.{write_told, write_of}
 
 -- some bytes, whatever came, were written there: nothing else is free

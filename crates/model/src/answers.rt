@@ -61,8 +61,8 @@ pub struct ShapeError {
     pub got: usize,
 }
 
-// Why nothing is read out: a lent slice has no place for each element due.
-#[derive(Clone, Copy, PartialEq, Eq)]
+// Why nothing is written: a lent slice has no place for each element due.
+#[derive(Clone, Copy, Debug, PartialEq, Eq)]
 pub struct TooShort;
 
 // Why there is no connectivity: the creation numbers are not both held, or not different.

@@ -3,7 +3,7 @@ use Rattle.std.specs.Prelude.{ℕ, List, [], ◌∷◌, Result, Ok, Err, length}
 use Rattle.model.specs.Answers.{Said, gives, refuses}
 use Rattle.model.specs.Questions.{first_no}
 use Rattle.model.specs.ReadOut.{has_places, written}
-use Rattle.text.specs.declared.writing.TooShort.{TooShort}
+use Rattle.model.specs.declared.answers.TooShort.{TooShort}
 
 -- "A refusal carries its number": 10, or how many bytes were written
 abbrev pub writing_said : Result ℕ TooShort → Said ℕ

@@ -5,6 +5,7 @@ mod refusal;
 mod text;
 mod writing;
 
+pub use model::TooShort;
 pub use refusal::refused;
 pub use text::{ROOM, Text};
-pub use writing::{TooShort, write};
+pub use writing::write;

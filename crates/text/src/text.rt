@@ -1,8 +1,9 @@
 // A text that grows piece by piece; what its room cannot take is cut off.
 ghost use Rattle.std.specs.Prelude.{◌≡◌, ◌≤◌, [], ◌∷◌, length, IfOk};
 
-use crate::writing::{TooShort, write};
+use crate::writing::write;
 use itoa::Buffer;
+use model::TooShort;
 
 // Room for every text of the programs: `families` has 64 lines of at most 43 bytes and a last one of at most 56, a picture at most 9,628 bytes.
 pub const ROOM: usize = 16384;

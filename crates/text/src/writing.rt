@@ -2,9 +2,7 @@
 ghost use Rattle.std.specs.Prelude.{◌≡◌, ◌≤◌, length, IfOk};
 ghost use Rattle.text.specs.Lent.{write_told, write_of};
 
-// The output has no place for all of the bytes.
-#[derive(Clone, Copy, Debug, PartialEq, Eq)]
-pub struct TooShort;
+use model::TooShort;
 
 // At the start of the output, if it has a place for all of them: how many they are.
 pub fn write(bytes: &[u8], output: &mut [u8]) -> Result<usize, TooShort>
