@@ -20,9 +20,6 @@ use Rattle.model.specs.declared.micro.MicroId.{MicroId}
 use Rattle.model.specs.declared.micro.DbMicro.{DbMicro}
 use Rattle.model.specs.Any.{any}
 use Rattle.model.specs.Limits.{micros_most}
-use Rattle.std.specs.Prelude.{Err}
-use Rattle.model.specs.declared.answers.InsertError.{InsertError}
-use Rattle.model.specs.declared.answers.InsertError.TheVariants.{Shape, ClockAtLimit, NoPlace}
 use Rattle.model.specs.Answers.{is_done, Insertion}
 use Rattle.model.specs.Questions.{insertion_asked}
 use Rattle.model.proofs.Laws.Stream.{inserted_by}
@@ -183,9 +180,3 @@ module _
   inserted b v eb ev =
       inserted_by dbstream (view s) x d place (held_by s f x) f.nearest a b v m.coordinates (λ h. ep ∙ place_is m h)
       (λ h p. placed_is m h (place_free f s.count (sym ep ∙ p))) (λ h. ap (λ (q : Scan). q.nearest) (met m h)) e eb ev
-
--- an error refuses the point
-pub error_refuses : (e : InsertError) → is_done (Err e) ≡ false
-error_refuses (Shape expected got) = refl
-error_refuses ClockAtLimit = refl
-error_refuses NoPlace = refl

@@ -1,11 +1,7 @@
 -- The opening of a stream: the law of any kind, of this one. Assumes nothing.
 use Prim.Native.Nat.{min}
 use mathlib.Core.Path.{◌≡◌, refl}
-use mathlib.Core.Bool.{Bool, false, cond}
-use Rattle.std.specs.Prelude.{Ok, Err}
-use Rattle.std.specs.Result.{is_ok}
-use Rattle.model.specs.declared.answers.OpenError.{OpenError}
-use Rattle.model.specs.declared.answers.OpenError.TheVariants.{Dim, Radius, Lambda, Share, Weight, BetaMu}
+use mathlib.Core.Bool.{Bool, cond}
 use Rattle.feature.specs.Feature.{max_dim}
 use Rattle.model.specs.Answers.{opening_number, is_open, Opening}
 use Rattle.model.specs.Numbers.{db_opening_no}
@@ -14,19 +10,6 @@ use Rattle.model.specs.Laws.Open.{opened_as}
 use Rattle.model.specs.DbState.{Settings, State}
 use Rattle.model.specs.Dbstream.{dbstream, asked, fresh, open_of}
 use Rattle.dbstream.specs.View.{with_dim}
-
-error_shuts : (e : OpenError) → is_open (Err e) ≡ false
-error_shuts Dim = refl
-error_shuts Radius = refl
-error_shuts Lambda = refl
-error_shuts Share = refl
-error_shuts Weight = refl
-error_shuts BetaMu = refl
-
--- a stream is open where there is no error
-pub open_ok : (a : Opening) → is_open a ≡ is_ok a
-open_ok (Ok u) = refl
-open_ok (Err e) = error_shuts e
 
 -- both clauses: a is the answer, v the stream beside it
 pub opened :

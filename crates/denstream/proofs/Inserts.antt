@@ -5,10 +5,8 @@ use mathlib.Core.Bool.{Bool, true, false}
 use mathlib.Core.List.{List}
 use lib.Ieee.{Float}
 use lib.ListN.{length}
-use Rattle.std.specs.Prelude.{Option, None, Some, Err}
+use Rattle.std.specs.Prelude.{Option, None, Some}
 use Rattle.std.specs.Option.{is_some}
-use Rattle.model.specs.declared.answers.InsertError.{InsertError}
-use Rattle.model.specs.declared.answers.InsertError.TheVariants.{Shape, ClockAtLimit, NoPlace}
 use Rattle.model.specs.Answers.{is_done, Insertion}
 use Rattle.model.specs.Questions.{insertion_asked}
 use Rattle.model.specs.Laws.Insert.{taken_asks}
@@ -29,11 +27,6 @@ use Rattle.denstream.specs.Inside.Placed.{held_by, placed_by}
 told_some : (dim : ℕ) (o : Option Placed) → is_some o ≡ is_some (placed_told dim o)
 told_some dim None = refl
 told_some dim (Some k) = refl
-
-pub error_refuses : (e : InsertError) → is_done (Err e) ≡ false
-error_refuses (Shape expected got) = refl
-error_refuses ClockAtLimit = refl
-error_refuses NoPlace = refl
 
 -- p is the placement of a point of the stream's coordinates
 abbrev pub Met : DenStream → List Float → Placement → Type 0

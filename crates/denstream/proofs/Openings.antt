@@ -1,14 +1,12 @@
 -- The opening of a stream: the law of any kind, of this one. Assumes nothing.
 use Prim.Native.Nat.{min}
 use mathlib.Core.Path.{◌≡◌, refl}
-use mathlib.Core.Bool.{Bool, false, cond}
+use mathlib.Core.Bool.{Bool, cond}
 use lib.Ieee.{lt}
 use Rattle.std.specs.Prelude.{Ok, Err}
-use Rattle.std.specs.Result.{is_ok}
 use Rattle.float.specs.Rounded.{one}
 use Rattle.feature.specs.Feature.{max_dim}
-use Rattle.model.specs.declared.answers.OpenError.{OpenError}
-use Rattle.model.specs.declared.answers.OpenError.TheVariants.{Dim, Radius, Lambda, Share, Weight, BetaMu}
+use Rattle.model.specs.declared.answers.OpenError.TheVariants.{BetaMu}
 use Rattle.model.specs.Answers.{opening_number, is_open, Opening}
 use Rattle.model.specs.Numbers.{den_opening_no}
 use Rattle.model.specs.Questions.{first_no, questions}
@@ -19,19 +17,6 @@ use Rattle.model.specs.Laws.Open.{one_more, opened_as}
 use Rattle.model.specs.DenState.{Settings, State}
 use Rattle.model.specs.Denstream.{denstream, asked, fresh, open_of}
 use Rattle.den_pool.specs.Held.{with_dim}
-
-error_shuts : (e : OpenError) → is_open (Err e) ≡ false
-error_shuts Dim = refl
-error_shuts Radius = refl
-error_shuts Lambda = refl
-error_shuts Share = refl
-error_shuts Weight = refl
-error_shuts BetaMu = refl
-
--- a stream is open where there is no error
-pub open_ok : (a : Opening) → is_open a ≡ is_ok a
-open_ok (Ok u) = refl
-open_ok (Err e) = error_shuts e
 
 -- a answers what both streams ask; above says whether beta * mu is above 1
 pub asked_of :

@@ -3,7 +3,7 @@ use Rattle.std.specs.Prelude.{◌≡◌, Bool, true, false, cond, ◌≢◌, Lis
 use Rattle.std.proofs.Common.{ap, ◌∙◌}
 use Rattle.std.specs.Float.Ieee.{lt}
 use Rattle.model.specs.Limits.{clock_limit}
-use Rattle.model.specs.Answers.{opening_number, insertion_number, is_done, Insertion, Opening}
+use Rattle.model.specs.Answers.{opening_number, insertion_number, is_done, Insertion, Opening, is_open}
 use Rattle.model.specs.Questions.{first_no}
 use Rattle.model.specs.Numbers.{db_opening_no, den_opening_no, insertion_no, insertion_said}
 use Rattle.model.specs.Outcome.{Opened, Outcome}
@@ -14,6 +14,10 @@ use Rattle.model.specs.DenState as den
 use Rattle.model.specs.Dbstream.{dbstream}
 use Rattle.model.specs.Denstream.{denstream}
 use Rattle.model.specs.declared.answers.InsertError.TheVariants.{Shape, ClockAtLimit, NoPlace}
+use Rattle.std.specs.Result.{is_ok}
+use Rattle.model.specs.declared.answers.OpenError.{OpenError}
+use Rattle.model.specs.declared.answers.OpenError.TheVariants.{Dim, Radius, Lambda, Share, Weight, BetaMu}
+use Rattle.model.specs.declared.answers.InsertError.{InsertError}
 
 -- what is said of the first no is the first no of what is said
 first_no_lem : {A B : Type 0} (f : A → B) (qs : List (Bool × A)) (a : A) → f (first_no qs a) ≡ first_no (map (λ (q : Bool × A). (q.0, f q.1)) qs) (f a)
@@ -62,3 +66,22 @@ pub den_opening_said :
     (p : den.Settings) (o : Opened den.State) → o ≡ open_of denstream p →
     opening_number o.answer ≡ den_opening_no p
 den_opening_said p o e = opening_said denstream p o e
+
+error_shuts : (e : OpenError) → is_open (Err e) ≡ false
+error_shuts Dim = refl
+error_shuts Radius = refl
+error_shuts Lambda = refl
+error_shuts Share = refl
+error_shuts Weight = refl
+error_shuts BetaMu = refl
+
+-- a stream is open where there is no error
+pub open_ok : (a : Opening) → is_open a ≡ is_ok a
+open_ok (Ok u) = refl
+open_ok (Err e) = error_shuts e
+
+-- an error refuses the point
+pub error_refuses : (e : InsertError) → is_done (Err e) ≡ false
+error_refuses (Shape expected got) = refl
+error_refuses ClockAtLimit = refl
+error_refuses NoPlace = refl

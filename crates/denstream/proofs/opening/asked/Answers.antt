@@ -3,7 +3,8 @@ use mathlib.Core.Path.{◌≡◌, refl, ap, ◌∙◌}
 use mathlib.Core.Bool.{true, false}
 use borrow.Author.Rules.{rules}
 use Rattle.model.specs.Answers.{is_open}
-use Rattle.denstream.proofs.Openings.{open_ok, asked_of}
+use Rattle.model.proofs.Laws.Numbers.{open_ok}
+use Rattle.denstream.proofs.Openings.{asked_of}
 use Rattle.denstream.proofs.opening.asked.Goals as goal
 
 pub returns-in_err-asked : goal.returns-in_err-asked

@@ -3,7 +3,8 @@ use Rattle.std.proofs.Common.{◌≡◌, rules, true, false, length, ap, sym, �
 use Rattle.model.specs.Limits.{micros_most}
 use Rattle.model.specs.Answers.{is_done, Insertion}
 use Rattle.dbstream.specs.View.{view}
-use Rattle.dbstream.proofs.Inserts.{Met, scanned, inserted, error_refuses}
+use Rattle.model.proofs.Laws.Numbers.{error_refuses}
+use Rattle.dbstream.proofs.Inserts.{Met, scanned, inserted}
 use Rattle.dbstream.proofs.stream.DbStream.insert.Goals.{After-scan_for-scan}
 use Rattle.dbstream.proofs.stream.DbStream.insert.Goals as goal
 

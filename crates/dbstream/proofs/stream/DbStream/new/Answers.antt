@@ -3,7 +3,8 @@ use mathlib.Core.Path.{sym, ◌∙◌}
 use mathlib.Core.Bool.{true, false}
 use Rattle.model.specs.Stream.{asked}
 use Rattle.dbstream.specs.View.{view}
-use Rattle.dbstream.proofs.Openings.{open_ok, opened}
+use Rattle.model.proofs.Laws.Numbers.{open_ok}
+use Rattle.dbstream.proofs.Openings.{opened}
 use Rattle.dbstream.proofs.stream.DbStream.new.Goals as goal
 
 pub returns-then-is_ok : goal.returns-then-is_ok

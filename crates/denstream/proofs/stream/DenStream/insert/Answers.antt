@@ -12,8 +12,9 @@ use Rattle.den_pool.specs.Held.{settled_of}
 use Rattle.den_placement.specs.Pools.{pools_in}
 use Rattle.den_placement.specs.Placing.{placement_of}
 use Rattle.denstream.specs.View.{view, dim_of, held_in}
-use Rattle.denstream.proofs.Inserts.{Met, error_refuses, there, ready, refused, taken}
-use Rattle.denstream.proofs.stream.DenStream.insert.Goals.{After-insertion_asked, After-place-placement, In_ok-insertion_asked, in-Some, in_default}
+use Rattle.model.proofs.Laws.Numbers.{error_refuses}
+use Rattle.denstream.proofs.Inserts.{Met, there, ready, refused, taken}
+use Rattle.denstream.proofs.stream.DenStream.insert.Goals.{After-place-placement, In_ok-insertion_asked, in-Some, in_default}
 use Rattle.denstream.proofs.stream.DenStream.insert.Goals as goal
 
 -- what is known once the point is placed

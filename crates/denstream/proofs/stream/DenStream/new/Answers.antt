@@ -2,7 +2,8 @@
 use mathlib.Core.Path.{sym, ◌∙◌}
 use mathlib.Core.Bool.{true, false}
 use Rattle.denstream.specs.View.{view}
-use Rattle.denstream.proofs.Openings.{open_ok, opened}
+use Rattle.model.proofs.Laws.Numbers.{open_ok}
+use Rattle.denstream.proofs.Openings.{opened}
 use Rattle.denstream.proofs.stream.DenStream.new.Goals as goal
 
 pub returns-then-is_ok : goal.returns-then-is_ok
