@@ -11,7 +11,7 @@ use Rattle.union_find.specs.Forest.{places, up, halve, Found, find_from, find_of
 use Rattle.union_find.specs.Steps.{union_steps, work_by}
 use Rattle.union_find.specs.Inside.Told.{found_told}
 use Rattle.union_find.specs.Laws.WellFormed.{halve_well}
-use Rattle.union_find.specs.Inside.WellFormed.{WellFormed, Sound}
+use Rattle.union_find.specs.Inside.WellFormed.{Sound}
 use Rattle.union_find.specs.Laws.Find.{Finds, find_law, find_stop, find_on, Made, made_few, made_next, steps_less}
 
 -- after so many halving steps from u₀ and x the forest is u, and the find stands at `at`
@@ -69,13 +69,9 @@ module _ {u₀ : UnionFind} {x : ℕ} {u : UnionFind} {at steps : ℕ} (t : Turn
 
 -- what a find gives back: f and the forest v
 module _
-    (u : UnionFind) (s : Sound u) (x : ℕ) (hx : x < places) (f : Reached) (v : UnionFind) (e : found_told v.parent f ≡ find_of u.parent x)
-    (er : v.rank ≡ u.rank) where
+    (u : UnionFind) (s : Sound u) (x : ℕ) (hx : x < places) (f : Reached) (v : UnionFind) (e : found_told v.parent f ≡ find_of u.parent x) where
   found : Finds u.parent u.rank x (found_told v.parent f)
   found = subst (Finds u.parent u.rank x) (sym e) (find_law u.parent u.rank s x hx)
-
-  pub found_sound : Sound v
-  found_sound = subst (WellFormed v.parent) (sym er) found.well
 
   -- the root found is a place
   pub found_low : f.root < places

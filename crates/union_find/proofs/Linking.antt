@@ -1,6 +1,6 @@
 -- What `by_rank` answers, and that storing it is a link. Assumes nothing.
 use Prim.Native.Nat.{ℕ, ◌+◌, ◌<◌}
-use mathlib.Core.Path.{◌≡◌, sym, ap, ◌∙◌, subst}
+use mathlib.Core.Path.{◌≡◌, sym, ap, ◌∙◌}
 use mathlib.Core.Logic.{◌≢◌, by_cases}
 use mathlib.Core.List.{List}
 use native.Mathlib.Omega.{arith}
@@ -10,13 +10,9 @@ use lib.Seq.{set-get_or}
 use borrow.Author.Tests.{lt-ltb, le-ltb}
 use Rattle.union_find.specs.declared.forest.UnionFind.{UnionFind}
 use Rattle.union_find.specs.declared.forest.Linked.{Linked}
-use Rattle.union_find.specs.Forest.{places, link_of}
-use Rattle.union_find.specs.Inside.Told.{linked_of}
+use Rattle.union_find.specs.Forest.{link_of}
+use Rattle.union_find.specs.Inside.Told.{linked_of, forest_by}
 use Rattle.union_find.specs.Laws.Union.{link_less, link_more, link_equal}
-
--- the forest of two arrays
-abbrev forest_by : (parent rank : List ℕ) → UnionFind
-forest_by parent rank = record { parent = parent; rank = rank }
 
 -- the three ways
 module _ (x y rx ry : ℕ) where
@@ -54,12 +50,3 @@ module _ (u : UnionFind) (x y : ℕ) (xy : x ≢ y) where
   module _ (l : Linked) (e : l ≡ linked_of x y rx ry) where
     pub linked_is : forest_by (set u.parent l.under l.above) (set u.rank l.above l.rank) ≡ link_of u x y
     linked_is = ap stored e ∙ by_ranks
-
-    -- both are places
-    pub linked_low : x < places → y < places → (l.under < places) × (l.above < places)
-    linked_low hx hy =
-        subst (λ (k : Linked). (k.under < places) × (k.above < places)) (sym e)
-        (by_cases (dec_lt rx ry) (λ h. rw (lower x y rx ry h) (hx, hy))
-        (λ h.
-        by_cases (dec_lt ry rx) (λ g. rw (higher x y rx ry g) (hy, hx))
-        (λ g. let q : rx ≡ ry = omega arith in rw (equals x y rx ry q) (hy, hx))))

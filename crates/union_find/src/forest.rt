@@ -1,19 +1,34 @@
 // `UnionFind` by rank with path halving, the roots after a list of pairs was joined, and the work that finding them was.
-ghost use Rattle.std.specs.Prelude.{◌≡◌, ◌+◌, ◌^◌, ◌<◌, ◌≤◌, take};
+ghost use Rattle.std.specs.Prelude.{◌≡◌, ◌+◌, ◌^◌, ◌<◌, ◌≤◌, take, get_or};
 ghost use Rattle.union_find.specs.Forest.{places, new_of, find_of, link_of, union_of, join_of, join_all, roots_in};
 ghost use Rattle.union_find.specs.Steps.{union_steps, join_steps, joins_steps, find_steps, work_by};
 ghost use Rattle.union_find.specs.Inside.WellFormed.{Sound};
-ghost use Rattle.union_find.specs.Inside.Told.{found_told, linked_of, joins_by};
+ghost use Rattle.union_find.specs.Inside.Told.{found_told, linked_of, joins_by, forest_by};
 
 use crate::PLACES;
 use std::array;
+use std::marker::Model;
 use std::ops::AddAssign;
 
-// The parent of each place, a root being its own, and the ranks of the roots.
+// The parent of each place, a root being its own, and the ranks of the roots: ranks rise with the parents.
 #[derive(Clone, Copy)]
 struct UnionFind {
     parent: [usize; PLACES],
     rank: [u8; PLACES],
+}
+
+impl Model for UnionFind {
+    ghost use Rattle.union_find.specs.Ranked.{Ranked};
+
+    ghost Value = { Ranked };
+
+    ghost use Rattle.union_find.specs.Inside.WellFormed.{WellFormed};
+
+    ghost view = { λ u. record { parent = u.parent; rank = u.rank } };
+
+    ghost invariant = { λ u. WellFormed u.parent u.rank };
+
+    ghost inverse = { λ v. record { parent = v.parent; rank = v.rank } };
 }
 
 // A root, and the halving steps on the way to it.
@@ -94,9 +109,10 @@ impl UnionFind {
     }
 
     // The root of x; each place met on the way up gets its grandparent for a parent. A while, since the way is no list.
+    // `sound` is the type's invariant, told to a caller.
     fn find(&mut self, x: usize) -> Reached
-        requires sound { Sound self.old }
         requires place { x < places }
+        ensures sound { Sound self.old }
         ensures found { found_told self.new.parent result ≡ find_of self.old.parent x }
         ensures ranks { self.new.rank ≡ self.old.rank }
     {
@@ -112,29 +128,29 @@ impl UnionFind {
         Reached { root: at, steps }
     }
 
-    // The roots x and y made one: the lower rank goes under the higher, and of equals y under x.
-    fn link(&mut self, x: usize, y: usize)
-        requires sound { Sound self.old }
+    // The roots x and y made one: the lower rank goes under the higher, and of equals y under x. Of two places that are no roots
+    // this would not leave a `UnionFind`, so it takes the arrays.
+    fn link(parent: &mut [usize; PLACES], rank: &mut [u8; PLACES], x: usize, y: usize)
+        requires low { get_or rank.old x 0 ≤ 6 }
         requires both { (x < places) × (y < places) }
-        ensures { self.new ≡ link_of self.old x y }
+        ensures { forest_by parent.new rank.new ≡ link_of (forest_by parent.old rank.old) x y }
     {
         if x != y {
-            let Linked { under, above, rank } = by_rank(x, y, self.rank[x], self.rank[y]);
-            self.parent[under] = above;
-            self.rank[above] = rank;
+            let to = by_rank(x, y, rank[x], rank[y]);
+            parent[to.under] = to.above;
+            rank[to.above] = to.rank;
         }
     }
 
     // The classes of a and b made one.
     fn union(&mut self, a: usize, b: usize) -> Work
-        requires sound { Sound self.old }
         requires both { (a < places) × (b < places) }
         ensures after { self.new ≡ union_of self.old a b }
         ensures work { result ≡ work_by (union_steps self.old a b) }
     {
         let x = self.find(a);
         let y = self.find(b);
-        self.link(x.root, y.root);
+        Self::link(&mut self.parent, &mut self.rank, x.root, y.root);
         Work {
             finds: 2,
             steps: x.steps + y.steps,
@@ -143,7 +159,6 @@ impl UnionFind {
 
     // A pair with a place that is not below n joins nothing.
     fn join(&mut self, a: usize, b: usize, n: usize) -> Work
-        requires sound { Sound self.old }
         requires few { n ≤ places }
         ensures after { self.new ≡ join_of n self.old (a, b) }
         ensures work { result ≡ work_by (join_steps n self.old (a, b)) }

@@ -11,6 +11,10 @@ use Rattle.union_find.specs.Steps.{work_by}
 abbrev pub found_told : (parent : List ℕ) → Reached → Found
 found_told parent f = record { parent = parent; root = f.root; steps = f.steps }
 
+-- the forest of two arrays
+abbrev pub forest_by : (parent rank : List ℕ) → UnionFind
+forest_by parent rank = record { parent = parent; rank = rank }
+
 -- joins: the forest, and the finds that were made for it
 abbrev pub joins_by : UnionFind → List ℕ → Joins
 joins_by u l = record { forest = u; work = work_by l }

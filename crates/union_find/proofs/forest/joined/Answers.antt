@@ -10,9 +10,6 @@ use Rattle.union_find.proofs.forest.joined.Goals as goal
 pub loop-a-init : goal.loop-a-init
 loop-a-init c = joining_start c.args.n c.args.pairs.now c.new-forest.result c.new-forest.ensures
 
-pub join-requires : goal.join-requires
-join-requires c = record { sound = c.loop-a.invariant.sound; few = c.requires }
-
 -- after a join
 next : (c : goal.After-join) →
     let l = c.loop-a in

@@ -27,18 +27,18 @@ same c =
 pub loop-i-init : goal.loop-i-init
 loop-i-init c =
     let k = few (goal.at.loop-i-init c).After-min in
-    seek_start (take c.min.result c.args.sought.now) c.args.pairs.now _ (omega arith) c.joined.result c.joined.ensures
+    seek_start (take c.min.result c.args.sought.now) c.args.pairs.now _ (omega arith) c.joined-forest.result c.joined-forest.ensures
 
 -- after a find
 next : (c : goal.After-find-found) →
     let l = c.loop-i in
     let f = c.find-found.result in
-    Seeking (take c.min.result c.args.sought.now) c.args.pairs.now c.joined.result.forest c.find-found.new.self
+    Seeking (take c.min.result c.args.sought.now) c.args.pairs.now c.joined-forest.result.forest c.find-found.new.self
     (set l.roots l.i f.root) (l.work.finds + 1) (l.work.steps + f.steps) (l.i + 1)
 next c =
     let l = c.loop-i in
     let f = c.find-found in
-    seek_takes (take c.min.result c.args.sought.now) (few (goal.at.After-find-found c).After-min) c.args.pairs.now c.joined.result.forest l.forest
+    seek_takes (take c.min.result c.args.sought.now) (few (goal.at.After-find-found c).After-min) c.args.pairs.now c.joined-forest.result.forest l.forest
     l.roots l.work.finds l.work.steps l.i l.invariant (omega arith) c.if-wanted.true f.result f.new.self f.ensures.found f.ensures.ranks
 
 pub add_assign-requires : goal.add_assign-requires
@@ -53,11 +53,11 @@ loop-i-preserved c =
     let sought = take c.min.result c.args.sought.now in
     elim c.if-wanted.branch [
       | then-wanted w ↦ rw (w.forest-is, w.work-is, w.roots-is, w.add_assign.ensures.after)
-          (seek_takes sought (few (goal.at.loop-i-preserved c).After-min) c.args.pairs.now c.joined.result.forest l.forest
+          (seek_takes sought (few (goal.at.loop-i-preserved c).After-min) c.args.pairs.now c.joined-forest.result.forest l.forest
           l.roots l.work.finds l.work.steps l.i l.invariant (omega arith) w.if-wanted.true w.find-found.result w.find-found.new.self
           w.find-found.ensures.found w.find-found.ensures.ranks)
       | else-wanted w ↦ rw (w.forest-is, w.work-is, w.roots-is)
-          (seek_passes sought (few (goal.at.loop-i-preserved c).After-min) c.args.pairs.now c.joined.result.forest l.forest
+          (seek_passes sought (few (goal.at.loop-i-preserved c).After-min) c.args.pairs.now c.joined-forest.result.forest l.forest
           l.roots l.work.finds l.work.steps l.i l.invariant (omega arith) w.if-wanted.false)
     ]
 
@@ -67,8 +67,8 @@ returns c =
     let sought = take c.min.result c.args.sought.now in
     let k = few (goal.at.returns c).After-min in
     let all =
-    seek_ends sought k c.args.pairs.now c.joined.result.forest l.forest l.roots l.work.finds l.work.steps l.i l.invariant (omega arith)
-    (ap (λ (m : Joins). m.forest) c.joined.ensures ∙ ap (λ (n : ℕ). join_all n new_of c.args.pairs.now) (omega arith)) in
+    seek_ends sought k c.args.pairs.now c.joined-forest.result.forest l.forest l.roots l.work.finds l.work.steps l.i l.invariant (omega arith)
+    (ap (λ (m : Joins). m.forest) c.joined-forest.ensures ∙ ap (λ (n : ℕ). join_all n new_of c.args.pairs.now) (omega arith)) in
     let e = same (goal.at.returns c).After-min in
     record {
       roots_value = all.0 ∙ ap (λ (bs : List Bool). roots_in bs c.args.pairs.now) e;
