@@ -1,4 +1,4 @@
-// What a DBSTREAM reads out. Apart from the stream, since a check grows with the functions over so large a struct.
+// What a DBSTREAM reads out: the calls of readout under each stream's own name, since a promise names its view. Apart from the stream, since a check grows with the functions over so large a struct.
 #![tactic(auto)]
 
 mod connected;

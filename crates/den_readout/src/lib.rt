@@ -1,4 +1,4 @@
-// What a DenStream reads out of its potential micro-clusters. Apart from the stream, since a check grows with the functions over so large a struct.
+// What a DenStream reads out of its potential micro-clusters: the calls of readout, promised of this stream's view. Apart from the stream, since a check grows with the functions over so large a struct.
 #![tactic(auto)]
 
 ghost use Rattle.std.specs.Prelude.{◌≡◌};

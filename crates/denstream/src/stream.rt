@@ -23,7 +23,7 @@ pub struct DenStream {
 }
 
 impl DenStream {
-    // The coordinates of a point.
+    // The coordinates of a point. As `DbStream::dim`, on a field of its own: one line, which a trait would not shorten.
     pub fn dim(&self) -> usize
         ensures { result ≡ (view self.now).params.settings.dim }
     {

@@ -37,7 +37,8 @@ impl Taker for DenStream {
     }
 }
 
-// A stream of dim 1, radius 1 and beta x mu 2 takes the points `early`; then its clock is t, and it takes `late`.
+// A stream of dim 1, radius 1 and beta x mu 2 takes the points `early`; then its clock is t, and it takes `late`. DBSTREAM's stands
+// beside it, since settings and fields are each stream's own.
 fn tried(rt: &impl Print, lambda: f64, early: &[f64], t: f64, late: &[f64]) -> io::Result<()> {
     let opened = DenStream::new(DenSettings {
         dim: 1,

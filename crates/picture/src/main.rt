@@ -1,4 +1,5 @@
-// Reads an input from standard input and prints its families in words and as a picture.
+// Reads an input from standard input and prints its families in words and as a picture. As `families`, but for the function and its
+// room: what both would share has to be given the function, and is no shorter.
 #![tactic(auto)]
 
 const STDOUT: i32 = 1;

@@ -5,6 +5,7 @@ use model::{InsertError, NotLive, OpenError, ShapeError, TooShort};
 use std::io;
 use words::Bits;
 
+// A refusal's number, as it is printed.
 pub fn say_refused(rt: &impl Print, number: u64) -> io::Result<()> {
     println!(rt; "refused {number}")
 }

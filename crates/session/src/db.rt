@@ -11,7 +11,7 @@ use crate::whole::{Session, whole_run};
 use dbstream::DbStream;
 use model::DbSettings;
 
-// The whole run of DBSTREAM's kind, with what demand 3 says of it.
+// The run of any stream, with what demand 3 says of DBSTREAM's kind: its claims are no other's, so the promise stands here.
 pub fn dbstream_session(
     settings: DbSettings,
     values: &[f64],

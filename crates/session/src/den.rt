@@ -11,7 +11,7 @@ use crate::whole::{Session, whole_run};
 use denstream::DenStream;
 use model::DenSettings;
 
-// The whole run of DenStream's kind, with what demand 3 says of it.
+// The run of any stream, with what demand 3 says of DenStream's kind: its claims are no other's, so the promise stands here.
 pub fn denstream_session(
     settings: DenSettings,
     values: &[f64],

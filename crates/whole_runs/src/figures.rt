@@ -1,6 +1,6 @@
 // What a run of either stream tells.
 
-// 0, or the number with which the run was refused, and what its stream says of itself.
+// 0, or the number with which the run was refused, and what its stream says of itself. A number, since C reads it.
 #[repr(C)]
 #[derive(Clone, Copy)]
 pub struct Figures {
