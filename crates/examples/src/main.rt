@@ -5,8 +5,9 @@
 mod groups;
 mod window;
 
-// A failed write is passed over.
-fn main(rt: HostRuntime) {
-    let _window = window::zeros_then_hundreds(&rt);
-    let _groups = groups::three_zeros(&rt);
+use words::Output;
+
+fn main() {
+    let _window = window::zeros_then_hundreds(&Output);
+    let _groups = groups::three_zeros(&Output);
 }

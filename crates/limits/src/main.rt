@@ -8,11 +8,12 @@ mod den;
 mod taker;
 mod window;
 
-// A failed write is passed over.
-fn main(rt: HostRuntime) {
-    let _window = window::last_values(&rt);
-    let _db = db::last_inserts(&rt);
-    let _cleanup = db::slowest_cleanup(&rt);
-    let _den = den::last_inserts(&rt);
-    let _pruning = den::slowest_pruning(&rt);
+use words::Output;
+
+fn main() {
+    let _window = window::last_values(&Output);
+    let _db = db::last_inserts(&Output);
+    let _cleanup = db::slowest_cleanup(&Output);
+    let _den = den::last_inserts(&Output);
+    let _pruning = den::slowest_pruning(&Output);
 }

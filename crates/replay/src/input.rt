@@ -1,36 +1,33 @@
 // Records of standard input: an operation's number, a count of at most 64, and that many operand words.
 use crate::operation::{OPERANDS, Operation};
-use std::io;
-use std::io::BufRead;
-use words::read_word;
+use words::word_at;
+
+const STDIN: i32 = 0;
 
 // A record that is cut short, has too many operands, or the wrong number for its operation, or no operation's number.
 #[derive(Clone, Copy)]
 pub struct Malformed;
 
-impl From<io::Error> for Malformed {
-    fn from(_e: io::Error) -> Malformed {
-        Malformed
-    }
-}
-
-// The next operation; none at the end of the input, or where it ends in a failed read.
-pub fn next_operation(input: &mut impl BufRead) -> Result<Option<Operation>, Malformed> {
-    let Ok(ahead) = input.fill_buf() else {
-        return Ok(None);
-    };
-    if ahead.is_empty() {
+// The next operation; none at the end of the input.
+pub fn next_operation() -> Result<Option<Operation>, Malformed> {
+    let mut head = [0u8; 16];
+    let got = io::read_full(STDIN, &mut head);
+    if got == 0 {
         return Ok(None);
     }
-    let number = read_word(input)?;
-    let count = read_word(input)?;
-    if count > OPERANDS as u64 {
+    let count = word_at(&head, 8);
+    if got < 16 || count > OPERANDS as u64 {
         return Err(Malformed);
     }
-    let mut words = [0u64; OPERANDS];
-    let operands = &mut words[..count as usize];
-    for operand in operands.iter_mut() {
-        *operand = read_word(input)?;
+    let mut bytes = [0u8; 8 * OPERANDS];
+    let due = 8 * count as usize;
+    if io::read_full(STDIN, &mut bytes[..due]) < due {
+        return Err(Malformed);
     }
-    Ok(Some(Operation::new(number, operands)?))
+    let mut words = [0; OPERANDS];
+    let operands = &mut words[..count as usize];
+    for (operand, bytes) in operands.iter_mut().zip(bytes.chunks_exact(8)) {
+        *operand = word_at(bytes, 0);
+    }
+    Ok(Some(Operation::new(word_at(&head, 0), operands)?))
 }

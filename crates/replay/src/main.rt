@@ -21,6 +21,7 @@ use input::{Malformed, next_operation};
 use model::OpenError;
 use operation::Operation;
 use std::io;
+use words::Output;
 
 // The current stream: the one that the last accepted opening made.
 #[derive(Clone, Copy)]
@@ -75,20 +76,19 @@ fn act(
     }
 }
 
-// The operations one after another, to the end of the input or to a record that is not well formed; a failed write is passed over.
-fn main(rt: HostRuntime) {
-    let mut input = rt.reader();
+// The operations one after another, to the end of the input or to a record that is not well formed.
+fn main() {
     let mut current = Current::Nobody;
     let mut window = None;
     // More records than any input has.
     for _ in 0..u64::MAX {
-        match next_operation(&mut input) {
+        match next_operation() {
             Ok(Some(operation)) => {
-                let _said = act(&rt, &mut current, &mut window, operation);
+                let _said = act(&Output, &mut current, &mut window, operation);
             }
             Ok(None) => return,
             Err(Malformed) => {
-                let _said = println!(rt; "bad");
+                let _said = println!(Output; "bad");
                 return;
             }
         }

@@ -6,26 +6,30 @@
 mod function;
 
 use function::Function;
-use std::io::Read;
-use words::{Bits, double_of, read_word};
+use words::{Bits, Output, double_of, word_at};
+
+const STDIN: i32 = 0;
 
 // The most records that are read.
 const RECORDS: usize = 65536;
 
 // Two words, a function's number and its argument's bits; none where the input ends.
-fn record(input: &mut impl Read) -> Option<(Function, f64)> {
-    let number = read_word(input).ok()?;
-    let bits = read_word(input).ok()?;
-    Some((Function::from(number), double_of(bits)))
+fn record() -> Option<(Function, f64)> {
+    let mut pair = [0u8; 16];
+    if io::read_full(STDIN, &mut pair) < 16 {
+        return None;
+    }
+    Some((
+        Function::from(word_at(&pair, 0)),
+        double_of(word_at(&pair, 8)),
+    ))
 }
 
-// A failed write is passed over.
-fn main(rt: HostRuntime) {
-    let mut input = rt.reader();
+fn main() {
     for _ in 0..RECORDS {
-        let Some((function, x)) = record(&mut input) else {
+        let Some((function, x)) = record() else {
             return;
         };
-        let _said = println!(rt; "{function} {} {}", Bits(x), Bits(function.of(x)));
+        let _said = println!(Output; "{function} {} {}", Bits(x), Bits(function.of(x)));
     }
 }

@@ -1,8 +1,10 @@
 // Words of 8 bytes, little-endian, as numbers and as doubles, and a double's text: what the programs read and print.
 #![tactic(auto)]
 
+mod output;
 mod text;
 mod word;
 
+pub use output::Output;
 pub use text::Bits;
-pub use word::{double_of, read_word, word_at};
+pub use word::{double_of, word_at};

@@ -1,12 +1,8 @@
 // A word in a row of bytes, and the double that has it as bits.
-ghost use Rattle.std.specs.Prelude.{◌≡◌, ℕ, List, length, IfOk};
+ghost use Rattle.std.specs.Prelude.{◌≡◌};
 ghost use Rattle.std.specs.Float.{binary64};
 ghost use Rattle.std.specs.Float.Ieee.{of_bits};
-ghost use Rattle.std.specs.Io.KnownBytes.{Consumes};
 ghost use Rattle.words.specs.Word.{word_at};
-
-use std::io;
-use std::io::Read;
 
 // The word that starts at a place; bytes past the end count as 0.
 pub fn word_at(bytes: &[u8], at: usize) -> u64
@@ -28,16 +24,4 @@ pub fn double_of(word: u64) -> f64
         return f64::NAN;
     }
     f64::from_bits(word)
-}
-
-// The word of the next eight bytes of a reader.
-pub fn read_word<R: Read>(input: &mut R) -> io::Result<u64>
-    ensures { IfOk result (λ word. (bytes : List ℕ)
-        × Consumes (R.remaining input.old) (R.remaining input.new) bytes
-        × (length bytes ≡ 8)
-        × (word ≡ word_at bytes 0)) }
-{
-    let mut bytes = [0u8; 8];
-    input.read_exact(&mut bytes)?;
-    Ok(word_at(&bytes, 0))
 }
