@@ -5,7 +5,7 @@ use mathlib.Core.Bool.{Bool, true, false}
 use mathlib.Core.List.{List, map}
 use native.Mathlib.Omega.{arith}
 use lib.Ieee.{Float}
-use lib.ListN.{length, length-map}
+use lib.ListN.{length, length-map, take, length-take}
 use borrow.Author.Tests.{lt-ltb, le-ltb}
 use Rattle.std.specs.Prelude.{Option, None, Some}
 use Rattle.std.specs.Bool.{then_some}
@@ -17,7 +17,7 @@ use Rattle.model.specs.DenState.{Params, Holdings}
 use Rattle.model.specs.DenInsert.{smaller_of, newborn}
 use Rattle.den_pool.specs.declared.trial.Absorbed.{Absorbed}
 use Rattle.den_pool.specs.declared.trial.Trial.{Trial}
-use Rattle.den_pool.specs.Held.{dim_of, settled_of, micro_in}
+use Rattle.den_pool.specs.Held.{sized, size_of, micro_in}
 use Rattle.den_pool.specs.Tried.{absorbed_told, tried_of, trial_told}
 use Rattle.den_pool.specs.Laws.Tried.{newborn_in}
 use Rattle.den_placement.specs.declared.choice.Target.{Target}
@@ -26,47 +26,56 @@ use Rattle.den_placement.specs.declared.choice.Placement.{Placement}
 use Rattle.den_placement.specs.Pools.{pools_in}
 use Rattle.den_placement.specs.Placing.{grown_to, else_by, placement_by, has_room, placement_of, placement_told}
 
-module _ (p : Params) (t : Float) (x : List Float) (potential outliers : List DenMicro) (e : length x ≡ dim_of p) where
-  abbrev d : ℕ
-  d = dim_of p
+-- of the point d coordinates are looked at
+module _ (p : Params) (t : Float) (point : List Float) (potential outliers : List DenMicro) (d : ℕ) (is : d ≡ size_of p point) where
+  abbrev x : List Float
+  x = take d point
+
+  few : d ≤ max_dim
+  few = omega (arith, is)
+
+  e : length x ≡ d
+  e = length-take d point ∙ omega (arith, is)
 
   abbrev h : Holdings
   h = pools_in d potential outliers
 
   abbrev by : (a b : Trial) → Placement
-  by a b = placement_by (settled_of p) t x (has_room h) a.near a.taken b
+  by a b = placement_by (sized d p) t x (has_room h) a.near a.taken b
 
-  abbrev Told : Placement → Type 0
-  Told r = placement_told d r ≡ placement_of (settled_of p) t h x
+  abbrev Told : Placement → ℕ → Type 0
+  Told r n = placement_told n r ≡ placement_of (sized n p) t (pools_in n potential outliers) (take n point)
 
   -- a trial of the point, as one of a point of so many coordinates
-  in_dim : (pool : List DenMicro) (c : Trial) → trial_told (length x) c ≡ tried_of p t x (map (micro_in (length x)) pool) → trial_told d c ≡ tried_of (settled_of p) t x (map (micro_in d) pool)
+  in_dim : (pool : List DenMicro) (c : Trial) → trial_told (length x) c ≡ tried_of p t x (map (micro_in (length x)) pool) → trial_told d c ≡ tried_of (sized d p) t x (map (micro_in d) pool)
   in_dim pool c w = subst (λ (n : ℕ). trial_told n c ≡ tried_of p t x (map (micro_in n) pool)) e w
 
   -- a is the trial of the potential ones
   module _ (a : Trial) (ea : trial_told (length x) a ≡ tried_of p t x (map (micro_in (length x)) potential)) where
-    pub placed_potential : (k : Absorbed) → a.taken ≡ Some k → Told (record { placed = Some (record { target = Potential k.place; micro = k.micro }); near = a.near })
+    pub placed_potential : (k : Absorbed) → a.taken ≡ Some k → Told (record { placed = Some (record { target = Potential k.place; micro = k.micro }); near = a.near }) (size_of p point)
     placed_potential k w =
-        ap (λ (o : Option Absorbed). placement_by (settled_of p) t x (has_room h) a.near (absorbed_told d o) (tried_of (settled_of p) t x h.outliers)) (sym w)
-        ∙ ap (λ (c : Trial). by c (tried_of (settled_of p) t x h.outliers)) (in_dim potential a ea)
+        subst (Told (record { placed = Some (record { target = Potential k.place; micro = k.micro }); near = a.near })) is
+        (ap (λ (o : Option Absorbed). placement_by (sized d p) t x (has_room h) a.near (absorbed_told d o) (tried_of (sized d p) t x h.outliers)) (sym w)
+        ∙ ap (λ (c : Trial). by c (tried_of (sized d p) t x h.outliers)) (in_dim potential a ea))
 
     -- no potential one takes it, and b is the trial of the outliers
     module _ (free : a.taken ≡ None) (b : Trial) (eb : trial_told (length x) b ≡ tried_of p t x (map (micro_in (length x)) outliers)) (near : Nearest) (g : near ≡ smaller_of a.near b.near) where
       abbrev others : Option Absorbed → Nearest → Placement
-      others o n = record { placed = else_by (settled_of p) t x (has_room h) (absorbed_told d o); near = n }
+      others o n = record { placed = else_by (sized d p) t x (has_room h) (absorbed_told d o); near = n }
 
-      by_others : (o : Option Absorbed) → b.taken ≡ o → others o near ≡ placement_of (settled_of p) t h x
+      by_others : (o : Option Absorbed) → b.taken ≡ o → others o near ≡ placement_of (sized d p) t h x
       by_others o w =
           ap₂ others (sym w) g
-          ∙ ap (λ (q : Option Absorbed). placement_by (settled_of p) t x (has_room h) a.near (absorbed_told d q) (trial_told d b)) (sym free)
+          ∙ ap (λ (q : Option Absorbed). placement_by (sized d p) t x (has_room h) a.near (absorbed_told d q) (trial_told d b)) (sym free)
           ∙ ap₂ by (in_dim potential a ea) (in_dim outliers b eb)
 
-      pub placed_outlier : (k : Absorbed) → b.taken ≡ Some k → (target : Target) → target ≡ grown_to p.bm k → Told (record { placed = Some (record { target = target; micro = k.micro }); near = near })
+      pub placed_outlier : (k : Absorbed) → b.taken ≡ Some k → (target : Target) → target ≡ grown_to p.bm k → Told (record { placed = Some (record { target = target; micro = k.micro }); near = near }) (size_of p point)
       placed_outlier k w target q =
-          ap (λ (u : Target). placement_told d (record { placed = Some (record { target = u; micro = k.micro }); near = near })) q ∙ by_others (Some k) w
+          subst (Told (record { placed = Some (record { target = target; micro = k.micro }); near = near })) is
+          (ap (λ (u : Target). placement_told d (record { placed = Some (record { target = u; micro = k.micro }); near = near })) q ∙ by_others (Some k) w)
 
       -- none takes it: a new outlier, if there is room
-      left : (w : b.taken ≡ None) (room : Bool) → room ≡ has_room h → record { placed = then_some room (record { target = Newborn; micro = newborn d t x }); near = near } ≡ placement_of (settled_of p) t h x
+      left : (w : b.taken ≡ None) (room : Bool) → room ≡ has_room h → record { placed = then_some room (record { target = Newborn; micro = newborn d t x }); near = near } ≡ placement_of (sized d p) t h x
       left w room q = ap (λ (u : Bool). record { placed = then_some u (record { target = Newborn; micro = newborn d t x }); near = near }) q ∙ by_others None w
 
       held_are : length h.potential + length h.outliers ≡ length potential + length outliers
@@ -74,10 +83,13 @@ module _ (p : Params) (t : Float) (x : List Float) (potential outliers : List De
 
       pub placed_newborn :
           b.taken ≡ None → (m : DenMicro) → m ≡ newborn max_dim t x → length potential + length outliers < micros_most →
-          Told (record { placed = Some (record { target = Newborn; micro = m }); near = near })
+          Told (record { placed = Some (record { target = Newborn; micro = m }); near = near }) (size_of p point)
       placed_newborn w m q low =
-          ap (λ (n : DenMicro). record { placed = Some (record { target = Newborn; micro = n }); near = near }) (newborn_in d t x m e (omega arith) q)
-          ∙ left w true (sym (lt-ltb (length h.potential + length h.outliers) micros_most (omega (arith, held_are))))
+          subst (Told (record { placed = Some (record { target = Newborn; micro = m }); near = near })) is
+          (ap (λ (n : DenMicro). record { placed = Some (record { target = Newborn; micro = n }); near = near }) (newborn_in d t x m e few q)
+          ∙ left w true (sym (lt-ltb (length h.potential + length h.outliers) micros_most (omega (arith, held_are)))))
 
-      pub placed_nowhere : b.taken ≡ None → micros_most ≤ length potential + length outliers → Told (record { placed = None; near = near })
-      placed_nowhere w full = left w false (sym (le-ltb (length h.potential + length h.outliers) micros_most (omega (arith, held_are))))
+      pub placed_nowhere : b.taken ≡ None → micros_most ≤ length potential + length outliers → Told (record { placed = None; near = near }) (size_of p point)
+      placed_nowhere w full =
+          subst (Told (record { placed = None; near = near })) is
+          (left w false (sym (le-ltb (length h.potential + length h.outliers) micros_most (omega (arith, held_are)))))

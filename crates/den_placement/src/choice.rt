@@ -1,11 +1,12 @@
 // The two trials of a point, and what follows from them.
-ghost use Rattle.std.specs.Prelude.{◌≡◌, length};
+ghost use Rattle.std.specs.Prelude.{◌≡◌, take};
 ghost use Rattle.model.specs.DenInsert.{smaller_of};
-ghost use Rattle.den_pool.specs.Held.{dim_of, settled_of};
+ghost use Rattle.den_pool.specs.Held.{sized, size_of};
 ghost use Rattle.den_placement.specs.Pools.{pools_in};
 ghost use Rattle.den_placement.specs.Placing.{grown_to, placement_of, placement_told};
 
 use den_pool::Absorbed;
+use feature::MAX_DIM;
 use model::{DenMicro, DenParams, MICROS};
 
 // What a point does to the pools: the potential one at the place absorbs it; the outlier there does, and moves to the
@@ -60,7 +61,8 @@ fn grown(absorbed: &Absorbed, bm: f64) -> Target
     Target::Outlier(absorbed.place)
 }
 
-// The potential pool is tried first, then the outliers; else the point is a new outlier, where there is a place.
+// The potential pool is tried first, then the outliers; else the point is a new outlier, where there is a place. Of a point as
+// many coordinates are looked at as the parameters say.
 pub fn place(
     potential: &[DenMicro],
     outliers: &[DenMicro],
@@ -68,11 +70,12 @@ pub fn place(
     t: f64,
     x: &[f64],
 ) -> Placement
-    ensures { length x.now ≡ dim_of params.now →
-        placement_told (dim_of params.now) result
-        ≡ placement_of (settled_of params.now) t (pools_in (dim_of params.now) potential.now outliers.now) x.now }
+    ensures { placement_told (size_of params.now x.now) result
+        ≡ placement_of (sized (size_of params.now x.now) params.now) t (pools_in (size_of params.now x.now) potential.now outliers.now)
+        (take (size_of params.now x.now) x.now) }
 {
-    let p = den_pool::try_merge(potential, params, t, x);
+    let point = &x[..x.len().min(params.settings.dim.min(MAX_DIM))];
+    let p = den_pool::try_merge(potential, params, t, point);
     if let Some(absorbed) = p.taken {
         let placed = Placed {
             target: Target::Potential(absorbed.place),
@@ -83,7 +86,7 @@ pub fn place(
             near: p.near,
         };
     }
-    let o = den_pool::try_merge(outliers, params, t, x);
+    let o = den_pool::try_merge(outliers, params, t, point);
     let near = smaller(p.near, o.near);
     let has_place = potential.len() + outliers.len() < MICROS;
     let placed = match o.taken {
@@ -93,7 +96,7 @@ pub fn place(
         }),
         None if has_place => Some(Placed {
             target: Target::Newborn,
-            micro: den_pool::newborn(x, t),
+            micro: den_pool::newborn(point, t),
         }),
         None => None,
     };

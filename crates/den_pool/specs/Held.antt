@@ -1,5 +1,5 @@
 -- What is seen of a pool: its first ones, of each micro-cluster the coordinates that a point has. Definitions only.
-use Rattle.std.specs.Prelude.{ℕ, min, List, map, Float, take}
+use Rattle.std.specs.Prelude.{ℕ, min, List, map, Float, length, take}
 use Rattle.feature.specs.Feature.{max_dim}
 use Rattle.model.specs.declared.micro.DenMicro.{DenMicro}
 use Rattle.model.specs.Body.{faded_weight, body_in, distance_to}
@@ -13,8 +13,15 @@ dim_of p = min p.settings.dim max_dim
 abbrev pub with_dim : Settings → ℕ → Settings
 with_dim g dim = record { dim = dim; eps = g.eps; lambda = g.lambda; beta = g.beta; mu = g.mu }
 
+abbrev pub sized : (dim : ℕ) → Params → Params
+sized dim p = record { settings = with_dim p.settings dim; eps2 = p.eps2; bm = p.bm; tp = p.tp }
+
 abbrev pub settled_of : Params → Params
-settled_of p = record { settings = with_dim p.settings (dim_of p); eps2 = p.eps2; bm = p.bm; tp = p.tp }
+settled_of p = sized (dim_of p) p
+
+-- how many coordinates of a point are looked at
+abbrev pub size_of : Params → List Float → ℕ
+size_of p x = min (length x) (dim_of p)
 
 -- a micro-cluster kept in 15 places, as that of dim coordinates which it is
 abbrev pub micro_in : (dim : ℕ) → DenMicro → DenMicro

@@ -1,21 +1,26 @@
 -- An insert into the arrays, seen through the view. Assumes nothing.
 use Prim.Native.Nat.{ℕ}
+use native.Mathlib.Omega.{arith}
 use mathlib.Core.Path.{◌≡◌, refl, sym, ap, ◌∙◌, subst}
 use mathlib.Core.Bool.{Bool, true, false}
 use mathlib.Core.List.{List}
 use lib.Ieee.{Float}
-use lib.ListN.{length}
+use lib.ListN.{length, take}
+use Rattle.std.proofs.lemmas.List.{take_all}
 use Rattle.std.specs.Prelude.{Option, None, Some}
 use Rattle.std.specs.Option.{is_some}
 use Rattle.model.specs.Answers.{is_done, Insertion}
 use Rattle.model.specs.Questions.{insertion_asked}
 use Rattle.model.specs.Laws.Insert.{taken_asks}
 use Rattle.model.proofs.Laws.Stream.{inserted_by}
-use Rattle.model.specs.DenState.{State}
+use Rattle.model.specs.declared.micro.DenMicro.{DenMicro}
+use Rattle.model.specs.DenState.{Params, State}
 use Rattle.model.specs.DenInsert as doc
 use Rattle.model.specs.DenInsert.{nearest_for}
 use Rattle.model.specs.Denstream.{denstream, tick_of, has_place, insert_of}
-use Rattle.den_pool.specs.Held.{micro_in}
+use Rattle.den_pool.specs.Held.{micro_in, sized, settled_of, size_of}
+use Rattle.den_pool.specs.Held.{dim_of as dim_of_params}
+use Rattle.den_placement.specs.Pools.{pools_in}
 use Rattle.den_placement.specs.declared.choice.Placed.{Placed}
 use Rattle.den_placement.specs.declared.choice.Placement.{Placement}
 use Rattle.den_placement.specs.Placing.{Ready, placement_of, placed_told, placement_told}
@@ -27,6 +32,17 @@ use Rattle.denstream.specs.Inside.Placed.{held_by, placed_by}
 told_some : (dim : ℕ) (o : Option Placed) → is_some o ≡ is_some (placed_told dim o)
 told_some dim None = refl
 told_some dim (Some k) = refl
+
+-- a placement by as many coordinates as are looked at is one by all that the point has, if they are the parameters'
+pub all_looked_at :
+    (p : Params) (t : Float) (x : List Float) (potential outliers : List DenMicro) (r : Placement) →
+    length x ≡ dim_of_params p →
+    placement_told (size_of p x) r ≡ placement_of (sized (size_of p x) p) t (pools_in (size_of p x) potential outliers) (take (size_of p x) x) →
+    placement_told (dim_of_params p) r ≡ placement_of (settled_of p) t (pools_in (dim_of_params p) potential outliers) x
+all_looked_at p t x potential outliers r e w =
+    let d = dim_of_params p in
+    subst (λ (n : ℕ). placement_told n r ≡ placement_of (sized n p) t (pools_in n potential outliers) (take n x)) (omega (arith, e)) w
+    ∙ ap (placement_of (settled_of p) t (pools_in d potential outliers)) (take_all d x (omega (arith, e)))
 
 -- p is the placement of a point of the stream's coordinates
 abbrev pub Met : DenStream → List Float → Placement → Type 0

@@ -8,7 +8,7 @@ use drift::{DriftMonitor, DriftReport};
 use feature::MAX_DIM;
 use model::{DenMicro, DenParams, MICROS};
 
-// Arrays with counts of what they hold, since there is no heap; the pools never have more than 64 together.
+// What stands in dbstream too is a line or two on fields of its own. Arrays with counts of what they hold, since there is no heap; the pools never have more than 64 together.
 #[derive(Clone, Copy)]
 pub struct DenStream {
     pub params: DenParams,
@@ -23,7 +23,7 @@ pub struct DenStream {
 }
 
 impl DenStream {
-    // The coordinates of a point. As `DbStream::dim`, on a field of its own: one line, which a trait would not shorten.
+    // The coordinates of a point.
     pub fn dim(&self) -> usize
         ensures { result ≡ (view self.now).params.settings.dim }
     {

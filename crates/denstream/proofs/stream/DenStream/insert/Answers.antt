@@ -13,7 +13,7 @@ use Rattle.den_placement.specs.Pools.{pools_in}
 use Rattle.den_placement.specs.Placing.{placement_of}
 use Rattle.denstream.specs.View.{view, dim_of, held_in}
 use Rattle.model.proofs.Laws.Numbers.{error_refuses}
-use Rattle.denstream.proofs.Inserts.{Met, there, ready, refused, taken}
+use Rattle.denstream.proofs.Inserts.{Met, all_looked_at, there, ready, refused, taken}
 use Rattle.denstream.proofs.stream.DenStream.insert.Goals.{After-place-placement, In_ok-insertion_asked, in-Some, in_default}
 use Rattle.denstream.proofs.stream.DenStream.insert.Goals as goal
 
@@ -22,7 +22,7 @@ met : (c : goal.After-place-placement) → Met c.args.self.now c.args.x.now c.pl
 unfolding held_in
 met c = λ h.
     let s = c.args.self.now in
-    c.place-placement.ensures h
+    all_looked_at s.params s.t c.args.x.now _ _ c.place-placement.result h c.place-placement.ensures
     ∙ ap₂ (λ (a b : List DenMicro). placement_of (settled_of s.params) s.t (pools_in (dim_of s) a b) c.args.x.now) c.potential.ensures c.outliers.ensures
 
 pub returns-in_err-insertion_asked-clause-told : goal.returns-in_err-insertion_asked-clause-told
