@@ -8,7 +8,6 @@ ghost use Rattle.union_find.specs.Inside.Told.{found_told, linked_of, joins_by, 
 use crate::PLACES;
 use std::array;
 use std::marker::Model;
-use std::ops::AddAssign;
 
 // The parent of each place, a root being its own, and the ranks of the roots: ranks rise with the parents.
 #[derive(Clone, Copy)]
@@ -67,12 +66,12 @@ struct Linked {
     rank: u8,
 }
 
-impl AddAssign for Work {
-    ghost can_add_assign = { λ a b. (a.finds + b.finds < 2 ^ 64) × (a.steps + b.steps < 2 ^ 64) };
-
-    ghost add_assign_gives = { λ a b r. r ≡ record { finds = a.finds + b.finds; steps = a.steps + b.steps } };
-
-    fn add_assign(&mut self, more: Work) {
+impl Work {
+    // Work that came after. No `+=`, which is public and would ask something of its callers.
+    fn add(&mut self, more: Work)
+        requires { (self.old.finds + more.finds < 2 ^ 64) × (self.old.steps + more.steps < 2 ^ 64) }
+        ensures { self.new ≡ record { finds = self.old.finds + more.finds; steps = self.old.steps + more.steps } }
+    {
         self.finds += more.finds;
         self.steps += more.steps;
     }
@@ -178,7 +177,7 @@ fn joined(pairs: &[(usize, usize)], n: usize) -> Joins
     let mut forest = UnionFind::new();
     let mut work = Work { finds: 0, steps: 0 };
     for &(a, b) in pairs {
-        work += forest.join(a, b, n);
+        work.add(forest.join(a, b, n));
     }
     Joins { forest, work }
 }
@@ -198,10 +197,10 @@ pub fn roots(pairs: &[(usize, usize)], sought: &[bool]) -> Rooted
         if wanted {
             let found = forest.find(i);
             roots[i] = found.root;
-            work += Work {
+            work.add(Work {
                 finds: 1,
                 steps: found.steps,
-            };
+            });
         }
     }
     Rooted { roots, work }

@@ -21,13 +21,13 @@ next c =
     joining_next a.n c.requires a.pairs.now l.forest l.work.finds l.work.steps l.a-index l.invariant _
     (drop-cons a.pairs.now l.a-index (0, 0) (omega arith)) _ c.join.result c.join.ensures.after c.join.ensures.work
 
-pub add_assign-requires : goal.add_assign-requires
-add_assign-requires c =
-    let few = joining_few c.args.n c.requires c.args.pairs.now _ _ _ _ (next (goal.at.add_assign-requires c).After-join) in
+pub add-requires : goal.add-requires
+add-requires c =
+    let few = joining_few c.args.n c.requires c.args.pairs.now _ _ _ _ (next (goal.at.add-requires c).After-join) in
     (omega arith, omega arith)
 
 pub loop-a-preserved : goal.loop-a-preserved
-loop-a-preserved c = rw c.add_assign.ensures.after (next (goal.at.loop-a-preserved c).After-join)
+loop-a-preserved c = rw c.add.ensures (next (goal.at.loop-a-preserved c).After-join)
 
 pub returns : goal.returns
 returns c =

@@ -41,9 +41,9 @@ next c =
     seek_takes (take c.min.result c.args.sought.now) (few (goal.at.After-find-found c).After-min) c.args.pairs.now c.joined-forest.result.forest l.forest
     l.roots l.work.finds l.work.steps l.i l.invariant (omega arith) c.if-wanted.true f.result f.new.self f.ensures.found f.ensures.ranks
 
-pub add_assign-requires : goal.add_assign-requires
-add_assign-requires c =
-    let at = (goal.at.add_assign-requires c).After-find-found in
+pub add-requires : goal.add-requires
+add-requires c =
+    let at = (goal.at.add-requires c).After-find-found in
     let s = seek_few (take c.min.result c.args.sought.now) (few (goal.at.After-find-found at).After-min) c.args.pairs.now _ _ _ _ _ _ (next at) in
     (omega arith, omega arith)
 
@@ -52,7 +52,7 @@ loop-i-preserved c =
     let l = c.loop-i in
     let sought = take c.min.result c.args.sought.now in
     elim c.if-wanted.branch [
-      | then-wanted w ↦ rw (w.forest-is, w.work-is, w.roots-is, w.add_assign.ensures.after)
+      | then-wanted w ↦ rw (w.forest-is, w.work-is, w.roots-is, w.add.ensures)
           (seek_takes sought (few (goal.at.loop-i-preserved c).After-min) c.args.pairs.now c.joined-forest.result.forest l.forest
           l.roots l.work.finds l.work.steps l.i l.invariant (omega arith) w.if-wanted.true w.find-found.result w.find-found.new.self
           w.find-found.ensures.found w.find-found.ensures.ranks)
