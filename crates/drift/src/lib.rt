@@ -49,24 +49,17 @@ impl DriftMonitor {
         let Some(d2) = nearest else {
             return self;
         };
-        let adwin = self.adwin;
-        let updated = adwin.update(sqrt::sqrt(d2) / self.radius);
-        let window = updated.window;
+        let updated = self.adwin.update(sqrt::sqrt(d2) / self.radius);
+        let adwin = updated.window;
         if updated.rings() {
             return DriftMonitor {
-                adwin: window,
-                radius: self.radius,
-                alarms: std::num::wrapping_add_u64(self.alarms, 1),
+                adwin,
+                alarms: self.alarms.wrapping_add(1),
                 last_alarm: Some(t),
+                ..self
             };
         }
-        let last_alarm = self.last_alarm;
-        DriftMonitor {
-            adwin: window,
-            radius: self.radius,
-            alarms: self.alarms,
-            last_alarm,
-        }
+        DriftMonitor { adwin, ..self }
     }
 
     // The alarms so far, the tick of the last, and the mean and width of the window.
