@@ -32,7 +32,7 @@ impl Factor {
     }
 }
 
-// Whether a and b are one double, bit for bit; a NaN is like none.
+// Whether a and b are one double, bit for bit, so 0 is not -0, as `==` has it; a NaN is like none.
 fn is_same(a: f64, b: f64) -> bool
     ensures { result ≡ same_bits a b }
 {

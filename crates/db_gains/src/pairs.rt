@@ -32,7 +32,8 @@ impl Walk {
     }
 }
 
-// The first `count` links gain by each pair of the neighbours ids; how many there are then.
+// The first `count` links gain by each pair of the neighbours ids; how many there are then. The whole array and a count, since new
+// links come behind those that are there.
 pub fn gain_pairs(
     links: &mut [Link; LINKS],
     mut count: usize,

@@ -5,14 +5,14 @@ ghost use Rattle.db_link.specs.Order.{key_of};
 
 use model::{Link, MicroId};
 
-// Whether l stands before k.
+// Whether l stands before k: the document's word for the derived order of the ends, which clauses cite.
 pub fn is_before(l: &Link, k: &Link) -> bool
     ensures { result ≡ before l.now k.now }
 {
     l.ends() < k.ends()
 }
 
-// Whether l and k have the same ends.
+// Whether l and k have the same ends, likewise.
 pub fn same_ends(l: &Link, k: &Link) -> bool
     ensures { result ≡ same_ends l.now k.now }
 {

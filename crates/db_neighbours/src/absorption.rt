@@ -51,7 +51,8 @@ fn absorb(
     }
 }
 
-// The neighbours that the scan found absorb the point; with none, a new one goes to the end, where there is a place.
+// The neighbours that the scan found absorb the point; with none, a new one goes to the end, where there is a place: so it is
+// lent the whole array and the count.
 pub fn with_point(
     micros: &mut [DbMicro; MICROS],
     count: &mut usize,

@@ -7,7 +7,8 @@ use drift::{DriftMonitor, DriftReport};
 use feature::MAX_DIM;
 use model::{DbMicro, DbParams, LINKS, Link, MICROS, MicroId};
 
-// Arrays with counts of what they hold, since there is no heap; links stand in the order of their ends' creation numbers.
+// `new`, `dim`, `tick`, `cluster` and `drift` stand in denstream too: a line or two on fields of a stream's own, which a trait with
+// accessors would not shorten. Arrays with counts of what they hold, since there is no heap; links stand in the order of their ends' creation numbers.
 #[derive(Clone, Copy)]
 pub struct DbStream {
     pub params: DbParams,

@@ -9,7 +9,7 @@ use crate::binary64::{BIAS, LEAD};
 use crate::order::is_finite;
 use crate::two_to::L;
 
-// The e with v = m * 2^e and 1 <= m < 2.
+// The e with v = m * 2^e and 1 <= m < 2. By its bits: std tells no exponent.
 fn exponent(v: f64) -> u64
     requires from_one { T (le one v) }
     requires finite { T (is_finite v) }
@@ -18,7 +18,7 @@ fn exponent(v: f64) -> u64
     f64::to_bits(v) / LEAD - BIAS
 }
 
-// 2 to the power e.
+// 2 to the power e, made of its bits: std has no power of two that is known to be exact.
 fn power_up(e: u64) -> f64
     requires { e ≤ 1023 }
     ensures { result ≡ plus_power e }

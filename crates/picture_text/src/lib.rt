@@ -39,6 +39,7 @@ fn text_of(input: &[u8]) -> Text
     ensures { text_of result ≡ picture_text input.now }
 {
     let session = input_session::session_of(input);
+    // By its number, since that is printed; 0 is none.
     let number = session.number();
     if number != 0 {
         return text::refused(number);

@@ -23,7 +23,7 @@ fn write_centres(bodies: [Body; MICROS], end: usize, width: usize, out: &mut [f6
     }
 }
 
-// Each one's weight, faded to t, and radius.
+// Each one's weight, faded to t, and radius; of the same array as the means.
 fn write_figures(
     bodies: [Body; MICROS],
     end: usize,
