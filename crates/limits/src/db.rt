@@ -1,7 +1,7 @@
 // A DBSTREAM near the end of its clock, and its cleanup with the slowest fading.
 use crate::taker::{Taker, taken};
 use dbstream::DbStream;
-use model::{DbMicro, DbSettings, MICROS, MicroId};
+use model::{DbMicro, DbSettings, MicroId};
 use std::num::saturating_f64_to_u64;
 use std::{fmt, io};
 use words::Bits;
@@ -28,8 +28,7 @@ impl Taker for DbStream {
         *self = inserted.stream;
         let number = model::number_of(inserted.answer);
         let t = saturating_f64_to_u64(self.t);
-        let n = self.count.min(MICROS);
-        let micros = Micros(&self.micros[..n]);
+        let micros = Micros(self.held());
         println!(rt; "db {number} {t}{micros}")
     }
 }

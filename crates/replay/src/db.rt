@@ -3,7 +3,7 @@ use crate::figures::{Counted, Feature, Figure, whole};
 use crate::stream::Replayed;
 use dbstream::DbStream;
 use drift::DriftMonitor;
-use model::{DbMicro, LINKS, Link, MICROS, MicroId, NotLive, ShapeError, TooShort};
+use model::{DbMicro, Link, MicroId, NotLive, ShapeError, TooShort};
 use std::fmt;
 use words::Bits;
 
@@ -64,14 +64,12 @@ impl Replayed for DbStream {
 
     fn write_held<W: fmt::Write>(&self, f: &mut fmt::Formatter<W>) -> fmt::Result {
         let dim = self.dim();
-        let n = self.count.min(MICROS);
-        let m = self.link_count.min(LINKS);
         let micros = Counted {
-            held: &self.micros[..n],
+            held: self.held(),
             dim,
         };
         let links = Counted {
-            held: &self.links[..m],
+            held: self.held_links(),
             dim,
         };
         write!(f, "db {} {}{micros}{links}", whole(self.t), self.next_id.0)
