@@ -6,7 +6,7 @@ use native.Mathlib.Nat.{mul_comm, mul-one, one-mul}
 use native.Mathlib.Omega.{arith}
 use lib.Dec.{T}
 use lib.IntN.{pos}
-use lib.Ieee.{Float, nan, inf, fin, Format, binary64, low, up, down, fits, mul, le, unlike, of_bits}
+use lib.Ieee.{Float, nan, inf, fin, Format, binary64, up, down, fits, mul, le, unlike, of_bits}
 use lib.Ieee.Fits.{down_pos}
 use lib.Ieee.Exact.{HasValue}
 use lib.Ieee.Order.{le_of_values}

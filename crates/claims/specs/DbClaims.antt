@@ -4,7 +4,7 @@ use mathlib.Core.List.{List, ◌++◌, map, foldl}
 use Rattle.std.specs.Float.Ieee.{le}
 use Rattle.lists.specs.Each.{Each}
 use Rattle.lists.specs.Retain.{retain}
-use Rattle.float.specs.Rounded.{◌⊗◌, one, whole}
+use Rattle.float.specs.Rounded.{◌⊗◌}
 use Rattle.union_find.specs.Pairs.{Chain}
 use Rattle.model.specs.declared.micro.MicroId.{MicroId}
 use Rattle.model.specs.declared.micro.DbMicro.{DbMicro}

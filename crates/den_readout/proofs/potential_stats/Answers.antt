@@ -1,5 +1,5 @@
 -- `potential_stats` meets its contract. Assumes nothing.
-use Rattle.std.proofs.Common.{refl, ap, sym, ◌∙◌, ◌≤◌, List, min, map, length, length-take, arith}
+use Rattle.std.proofs.Common.{refl, ap, ◌∙◌, ◌≤◌, List, min, map, length, length-take, arith}
 use Rattle.std.proofs.lemmas.List.{take_all}
 use Rattle.feature.specs.Feature.{max_dim}
 use Rattle.model.specs.declared.body.Body.{Body}
