@@ -1,7 +1,7 @@
 // ADWIN: a window over a stream of numbers that tells when they changed (Bifet & Gavaldà, SDM 2007).
 #![tactic(auto)]
 
-ghost use Rattle.std.specs.Prelude.{◌≡◌, ◌+◌, ◌<◌, ◌≤◌, Ok, false};
+ghost use Rattle.std.specs.Prelude.{◌≡◌, ◌+◌, ◌<◌, ◌≤◌, Ok, Err, false};
 ghost use Rattle.float.specs.Order.{is_finite};
 ghost use Rattle.std.specs.List.{remove};
 ghost use Rattle.adwin.specs.Settings.{places};
@@ -41,6 +41,15 @@ pub enum Verdict {
 // The refusal of a value: `LIMIT` were taken, or no place is left.
 #[derive(Clone, Copy, Debug, PartialEq, Eq)]
 pub struct Full;
+
+impl From<Full> for u64 {
+    ghost from_gives = { λ e n. n ≡ number_of (Err e) };
+
+    // The refusal's number.
+    fn from(_error: Full) -> u64 {
+        8
+    }
+}
 
 // What an update gives back: its answer, and the window after it.
 #[derive(Clone, Copy)]

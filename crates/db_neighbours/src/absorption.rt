@@ -44,6 +44,7 @@ fn absorb(
     ensures { take held micros.new ≡ absorb_near (r ⊗ r) (absorbs lambda t x.now) (take held distances.now) (take held micros.old) }
 {
     let r2 = r * r;
+    // Over places: of what a zip of `iter_mut()` with the distances writes std says nothing.
     for i in 0..held {
         if distances[i] <= r2 {
             micros[i] = absorbed(micros[i], x, lambda, t);

@@ -33,6 +33,7 @@ impl Spherical {
         let factor = 1.0 / grown;
         let c = 1.0 * (1.0 - 1.0 / grown);
         let mut n = 0.0;
+        // Over places: of what a zip of `iter_mut()` with the point writes std says nothing, so the mean after it stayed open.
         for i in 0..k {
             let m = self.mean[i];
             let d = x[i] - m;

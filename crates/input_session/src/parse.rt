@@ -57,6 +57,7 @@ pub(crate) fn point(bytes: &[u8], dim: usize) -> [f64; MAX_DIM]
     ensures { take dim result ≡ doubles_from dim bytes.now 0 }
 {
     let mut x = [0.0; MAX_DIM];
+    // Over places: of what a zip of `iter_mut()` with the words writes std says nothing, so the goal at the return stayed open.
     for i in 0..dim {
         x[i] = double_at(bytes, i * WORD);
     }

@@ -12,7 +12,7 @@ use dbstream::DbStream;
 use model::{InsertError, OpenError};
 use words::word_at;
 
-// Every point, until one is refused.
+// Every point, until one is refused. An opened stream has such a dim; it is asked here and in `point` alone, too little for a type.
 fn insert_all(stream: &mut DbStream, points: &[u8], dim: usize) -> Result<(), InsertError>
     requires { (1 ≤ dim) × (dim ≤ 15) }
     ensures { record { answer = result; stream = view stream.new }

@@ -1,22 +1,32 @@
 // A window near the end of the values that it takes.
 use crate::taker::{Taker, taken};
 use adwin::{Adwin, Bucket, Full, PLACES, Verdict};
-use std::io;
 use std::num::saturating_f64_to_u64;
+use std::{fmt, io};
 
 // The buckets of the fullest window: 6 of each class up to 36 and 2 of class 37.
 const MOST: usize = 224;
+
+// An update's answer, as it is printed.
+#[derive(Clone, Copy)]
+struct Answer(Result<Verdict, Full>);
+
+impl fmt::Display for Answer {
+    fn fmt<W: fmt::Write>(&self, f: &mut fmt::Formatter<W>) -> fmt::Result {
+        match self.0 {
+            Ok(Verdict::Quiet) => write!(f, "quiet"),
+            Ok(Verdict::Alarm) => write!(f, "alarm"),
+            Err(error) => write!(f, "refused {}", u64::from(error)),
+        }
+    }
+}
 
 impl Taker for Adwin {
     // The answer, the values taken, the width and the buckets.
     fn take(&mut self, rt: &impl Print, x: f64) -> io::Result<()> {
         let updated = (*self).update(x);
         *self = updated.window;
-        let answer = match updated.answer {
-            Ok(Verdict::Quiet) => "quiet",
-            Ok(Verdict::Alarm) => "alarm",
-            Err(Full) => "refused 8",
-        };
+        let answer = Answer(updated.answer);
         let width = saturating_f64_to_u64(self.width);
         println!(rt; "{answer} {} {width} {}", self.taken, self.count)
     }

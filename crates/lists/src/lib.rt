@@ -27,6 +27,7 @@ pub fn each<T, U: Copy, const N: usize, F: Fn(&T) -> U>(items: &[T], none: U, pa
     ensures { (f : T → U) → AnswersBy F.Fn part f → take (length items.now) result ≡ map f (take N items.now) }
 {
     let mut all = [none; N];
+    // Over places: of what a zip of `all.iter_mut()` with the items writes std says nothing, so the goal at the return stayed open.
     for i in 0..items.len().min(N) {
         all[i] = part(&items[i]);
     }

@@ -1,6 +1,6 @@
 // What a stream answers where it refuses: the error of each call, and its number.
-ghost use Rattle.std.specs.Prelude.{◌≡◌, MatchResult};
-ghost use Rattle.model.specs.Answers.{open_error_number, insert_error_number};
+ghost use Rattle.std.specs.Prelude.{◌≡◌, Err, MatchResult};
+ghost use Rattle.model.specs.Answers.{open_error_number, insert_error_number, read_out_number, prediction_said, connectivity_said};
 
 // Why a stream is not opened: the first question whose answer is no.
 #[derive(Clone, Copy, PartialEq, Eq)]
@@ -61,13 +61,40 @@ pub struct ShapeError {
     pub got: usize,
 }
 
+impl From<ShapeError> for u64 {
+    ghost from_gives = { λ e n. n ≡ (prediction_said (Err e)).number };
+
+    // The refusal's number.
+    fn from(_error: ShapeError) -> u64 {
+        7
+    }
+}
+
 // Why nothing is written: a lent slice has no place for each element due.
 #[derive(Clone, Copy, Debug, PartialEq, Eq)]
 pub struct TooShort;
 
+impl From<TooShort> for u64 {
+    ghost from_gives = { λ e n. n ≡ read_out_number (Err e) };
+
+    // The refusal's number.
+    fn from(_error: TooShort) -> u64 {
+        10
+    }
+}
+
 // Why there is no connectivity: the creation numbers are not both held, or not different.
 #[derive(Clone, Copy, PartialEq, Eq)]
 pub struct NotLive;
+
+impl From<NotLive> for u64 {
+    ghost from_gives = { λ e n. n ≡ (connectivity_said (Err e)).number };
+
+    // The refusal's number.
+    fn from(_error: NotLive) -> u64 {
+        12
+    }
+}
 
 // The number of an answer: the refusal's, or 0.
 pub fn number_of<E: Into<u64>>(answer: Result<(), E>) -> u64

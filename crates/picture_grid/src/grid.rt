@@ -32,7 +32,7 @@ fn framed(frame: u8, mark: u8) -> u8
     if mark == b' ' { frame } else { mark }
 }
 
-// A line of cells, marks over the frame.
+// A line of cells, marks over the frame. That the row is in the grid is asked here and below alone, too little for a type.
 fn add_line(text: &mut Text, frame: &[u8; WIDTH], cells: &[u8; CELLS], row: usize)
     requires { row ≤ 20 }
     ensures { Added text.old (line_text frame.now cells.now row) text.new }

@@ -55,7 +55,7 @@ fn over(old: u8, mark: u8) -> u8
     }
 }
 
-// A mark in its cell, or one more without a place.
+// A mark in its cell, or one more without a place. The bound, asked here alone, is that one more can be counted.
 fn add_mark(plot: &mut Plot, up: Upward, row: &Row)
     requires { plot.old.hidden ≤ micros_most }
     ensures value { plot.new ≡ marked up plot.old row.now }

@@ -36,6 +36,7 @@ fn write_figures(
     ensures weights_after { weights.new ≡ written (map (faded_weight lambda t) (take end bodies)) weights.old }
     ensures radii { radii.new ≡ written (map radius_of (take end bodies)) radii.old }
 {
+    // Over places: of what a zip of `iter_mut()` writes std says nothing.
     for i in 0..end {
         let body = &bodies[i];
         weights[i] = body.faded_weight(lambda, t);

@@ -6,19 +6,25 @@ use std::io;
 use words::Bits;
 
 // A refusal's number, as it is printed.
-pub fn say_refused(rt: &impl Print, number: u64) -> io::Result<()> {
+pub fn say_refused(rt: &impl Print, error: impl Into<u64>) -> io::Result<()> {
+    let number: u64 = error.into();
     println!(rt; "refused {number}")
 }
 
-fn say_shape(rt: &impl Print, expected: usize, got: usize) -> io::Result<()> {
-    println!(rt; "refused 7 {expected} {got}")
+fn say_shape(rt: &impl Print, error: ShapeError) -> io::Result<()> {
+    println!(rt;
+        "refused {} {} {}",
+        u64::from(error),
+        error.expected,
+        error.got
+    )
 }
 
 // Operations 1 and 2.
 pub fn say_opening(rt: &impl Print, answer: Result<(), OpenError>) -> io::Result<()> {
     match answer {
         Ok(()) => println!(rt; "ok"),
-        Err(error) => say_refused(rt, error.into()),
+        Err(error) => say_refused(rt, error),
     }
 }
 
@@ -26,8 +32,8 @@ pub fn say_opening(rt: &impl Print, answer: Result<(), OpenError>) -> io::Result
 pub fn say_insertion(rt: &impl Print, answer: Result<(), InsertError>) -> io::Result<()> {
     match answer {
         Ok(()) => println!(rt; "ok"),
-        Err(InsertError::Shape { expected, got }) => say_shape(rt, expected, got),
-        Err(error) => say_refused(rt, error.into()),
+        Err(InsertError::Shape { expected, got }) => say_shape(rt, ShapeError { expected, got }),
+        Err(error) => say_refused(rt, error),
     }
 }
 
@@ -41,7 +47,7 @@ pub fn say_labels(rt: &impl Print, answer: Result<(), TooShort>, labels: &[i64])
                 dim: 0
             }
         ),
-        Err(TooShort) => say_refused(rt, 10),
+        Err(error) => say_refused(rt, error),
     }
 }
 
@@ -49,7 +55,7 @@ pub fn say_labels(rt: &impl Print, answer: Result<(), TooShort>, labels: &[i64])
 pub fn say_prediction(rt: &impl Print, answer: Result<i64, ShapeError>) -> io::Result<()> {
     match answer {
         Ok(label) => println!(rt; "label {label}"),
-        Err(ShapeError { expected, got }) => say_shape(rt, expected, got),
+        Err(error) => say_shape(rt, error),
     }
 }
 
@@ -57,7 +63,7 @@ pub fn say_prediction(rt: &impl Print, answer: Result<i64, ShapeError>) -> io::R
 pub fn say_connectivity(rt: &impl Print, answer: Result<f64, NotLive>) -> io::Result<()> {
     match answer {
         Ok(density) => println!(rt; "connectivity {}", Bits(density)),
-        Err(NotLive) => say_refused(rt, 12),
+        Err(error) => say_refused(rt, error),
     }
 }
 

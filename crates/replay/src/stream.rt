@@ -61,9 +61,9 @@ fn statistics<S: Replayed>(
     let w = weights.min(MICROS);
     let r = radii.min(MICROS);
     let answer = stream.statistics(&mut cs[..c], &mut ws[..w], &mut rs[..r]);
-    let Ok(()) = answer else {
-        return answers::say_refused(rt, 10);
-    };
+    if let Err(error) = answer {
+        return answers::say_refused(rt, error);
+    }
     let n = stream.micros_held().min(MICROS);
     let dim = stream.coordinates().min(MAX_DIM);
     let coordinates = (n * dim).min(CENTRES);

@@ -1,6 +1,7 @@
 // The operations on the current window.
+use crate::answers::say_refused;
 use crate::operation::WindowCall;
-use adwin::{Adwin, Full, Verdict};
+use adwin::{Adwin, Verdict};
 use std::io;
 use words::Bits;
 
@@ -9,7 +10,7 @@ fn update(rt: &impl Print, window: &mut Adwin, value: f64) -> io::Result<()> {
     match adwin_lent::update(window, value) {
         Ok(Verdict::Quiet) => println!(rt; "quiet"),
         Ok(Verdict::Alarm) => println!(rt; "alarm"),
-        Err(Full) => println!(rt; "refused 8"),
+        Err(error) => say_refused(rt, error),
     }
 }
 

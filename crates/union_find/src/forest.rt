@@ -96,6 +96,8 @@ fn by_rank(x: usize, y: usize, rx: u8, ry: u8) -> Linked
     }
 }
 
+// Places stay numbers with a bound at each step: they come as the caller's pairs, and a type for them would be taken apart at
+// each index.
 impl UnionFind {
     // Each place its own root.
     fn new() -> Self
