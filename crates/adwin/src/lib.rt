@@ -14,9 +14,10 @@ ghost use Rattle.adwin.specs.Inside.Lists.{oldest_dropped, pair_merged, with_hel
 pub use adwin_buckets::{Bucket, PLACES};
 use adwin_buckets::{CutTest, some_fails};
 
-// The window. The buckets are the first `count` of the array, oldest first, each with its class:
-// a bucket of class c has 2^c values. The classes have an array of their own, since the cut search is lent buckets alone.
-// Arrays and a count, since there is no heap; any count is taken, so each step that needs it within the places says so.
+// The window. The buckets are the first `count` of the array, oldest first, each with its class: a bucket of class c has 2^c values.
+// The classes have an array of their own, since the cut search is lent the buckets as a slice and has no use of a class.
+// Arrays and a count: the window is Copy and passed by value, which an ArrayVec is not. Any count is taken, so each step that needs it
+// within the places says so.
 #[derive(Clone, Copy)]
 pub struct Adwin {
     pub delta: f64,
@@ -58,12 +59,19 @@ pub struct Updated {
     pub window: Adwin,
 }
 
+// Whether the window shrank because its values changed.
+pub fn rings(answer: &Result<Verdict, Full>) -> bool
+    ensures { result ≡ rings answer.now }
+{
+    matches!(answer, Ok(Verdict::Alarm))
+}
+
 impl Updated {
-    // Whether the window shrank because its values changed.
+    // The same, of its answer.
     pub fn rings(&self) -> bool
         ensures { result ≡ rings self.now.answer }
     {
-        matches!(self.answer, Ok(Verdict::Alarm))
+        rings(&self.answer)
     }
 }
 
@@ -83,11 +91,7 @@ impl Adwin {
     {
         Self {
             delta: delta.clamp(f64::MIN_POSITIVE, 1.0 - f64::EPSILON),
-            buckets: [Bucket {
-                size: 0.0,
-                total: 0.0,
-                variance: 0.0,
-            }; PLACES],
+            buckets: [Bucket::default(); PLACES],
             classes: [0; PLACES],
             count: 0,
             width: 0.0,
@@ -202,6 +206,7 @@ impl Adwin {
         self.classes[n] = 0;
         self.count = n + 1;
         let mut k = 0;
+        // Over places: each turn looks at two neighbours and may change the array.
         for i in (0..n).rev() {
             if self.classes[i] != self.classes[i + 1] {
                 return;

@@ -3,7 +3,7 @@ ghost use Rattle.std.specs.Prelude.{◌≡◌};
 ghost use Rattle.adwin_buckets.specs.Bucket.{merged_of, single_of};
 
 // `size` values with the sum `total`; `variance` is the sum of their squared deviations from their mean.
-#[derive(Clone, Copy)]
+#[derive(Clone, Copy, Default)]
 pub struct Bucket {
     pub size: f64,
     pub total: f64,

@@ -33,10 +33,9 @@ impl Spherical {
         let factor = 1.0 / grown;
         let c = 1.0 * (1.0 - 1.0 / grown);
         let mut n = 0.0;
-        // Over places: of what a zip of `iter_mut()` with the point writes std says nothing, so the mean after it stayed open.
-        for i in 0..k {
+        for (i, x) in x[..k].iter().enumerate() {
             let m = self.mean[i];
-            let d = x[i] - m;
+            let d = *x - m;
             n = n + d * d;
             self.mean[i] = m + factor * d;
         }

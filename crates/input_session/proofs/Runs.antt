@@ -70,7 +70,7 @@ unfolding insert_all points_from
 none_left dim bytes s h = ap (λ (k : ℕ). insert_all s (points_from k dim bytes 0)) (div-eq_of_lt h)
 
 not_done : (e : InsertError) → is_done (Err e) ≡ false
-not_done (Shape expected got) = refl
+not_done (Shape e) = refl
 not_done ClockAtLimit = refl
 not_done NoPlace = refl
 

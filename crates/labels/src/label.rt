@@ -2,6 +2,7 @@
 ghost use Rattle.std.specs.Prelude.{◌≡◌, ◌==◌, position};
 ghost use Rattle.labels.specs.Label.{labels_in};
 
+use arrayvec::ArrayVec;
 use union_find::{PLACES, Work};
 
 // Labels of places, and the finds that were made for them.
@@ -24,18 +25,15 @@ pub fn labels(roots: &[usize; PLACES], mask: &[bool]) -> [i64; PLACES]
 {
     let mask = &mask[..mask.len().min(PLACES)];
     let mut labels = [-1i64; PLACES];
-    let mut met = [0usize; PLACES];
-    let mut count: usize = 0;
+    let mut met: ArrayVec<usize, PLACES> = ArrayVec::new();
     for (i, &inside) in mask.iter().enumerate() {
         if inside {
             let root = roots[i];
-            let k = match place_in(&met[..count], root) {
+            let k = match place_in(met.as_slice(), root) {
                 Some(k) => k,
                 None => {
-                    let k = count;
-                    met[k] = root;
-                    count += 1;
-                    k
+                    met.push(root);
+                    met.len() - 1
                 }
             };
             labels[i] = k as i64;

@@ -11,6 +11,7 @@ pub fn retain<T: Copy, F: Fn(&T) -> bool>(items: &mut [T], keep: F) -> usize
     ensures bound { result ≤ length items.old }
 {
     let mut kept = 0;
+    // Over places: the slice that is read is also written.
     for i in 0..items.len() {
         let item = items[i];
         if keep(&item) {
@@ -27,9 +28,8 @@ pub fn each<T, U: Copy, const N: usize, F: Fn(&T) -> U>(items: &[T], none: U, pa
     ensures { (f : T → U) → AnswersBy F.Fn part f → take (length items.now) result ≡ map f (take N items.now) }
 {
     let mut all = [none; N];
-    // Over places: of what a zip of `all.iter_mut()` with the items writes std says nothing, so the goal at the return stayed open.
-    for i in 0..items.len().min(N) {
-        all[i] = part(&items[i]);
+    for (i, item) in items[..items.len().min(N)].iter().enumerate() {
+        all[i] = part(item);
     }
     all
 }

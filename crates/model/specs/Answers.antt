@@ -35,7 +35,7 @@ open_error_number Weight = 5
 open_error_number BetaMu = 6
 
 abbrev pub insert_error_number : InsertError → ℕ
-insert_error_number (Shape expected got) = 7
+insert_error_number (Shape e) = 7
 insert_error_number ClockAtLimit = 8
 insert_error_number NoPlace = 9
 
@@ -57,7 +57,7 @@ is_done a = insertion_number a == 0
 -- "with expected and got as in `ShapeError`"
 abbrev pub insertion_values : Insertion → List ℕ
 insertion_values (Ok _) = []
-insertion_values (Err (Shape expected got)) = expected ∷ got ∷ []
+insertion_values (Err (Shape e)) = e.expected ∷ e.got ∷ []
 insertion_values (Err ClockAtLimit) = []
 insertion_values (Err NoPlace) = []
 

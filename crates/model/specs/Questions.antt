@@ -7,6 +7,7 @@ use Rattle.float.specs.Order.{is_finite}
 use Rattle.feature.specs.Feature.{max_dim}
 use Rattle.model.specs.Limits.{clock_limit}
 use Rattle.model.specs.declared.answers.OpenError.TheVariants.{Dim, Radius, Lambda, Share, Weight}
+use Rattle.model.specs.declared.answers.InsertError.{InsertError}
 use Rattle.model.specs.declared.answers.InsertError.TheVariants.{Shape, ClockAtLimit, NoPlace}
 use Rattle.model.specs.Answers.{Insertion, Opening}
 
@@ -41,6 +42,10 @@ questions dim radius lambda share weight =
     ∷ (positive weight, Err Weight)
     ∷ []
 
+-- "7, with expected and got as in `ShapeError`"
+abbrev pub other_length : (dim got : ℕ) → InsertError
+other_length dim got = Shape (record { expected = dim; got = got })
+
 -- "Insert (7, 8, 9)": the point's length, the clock, and whether there is a place for the point
 abbrev pub insertion_asked : (dim got : ℕ) (t : Float) (place : Bool) → Insertion
-insertion_asked dim got t place = first_no (((got == dim), Err (Shape dim got)) ∷ (lt t clock_limit, Err ClockAtLimit) ∷ (place, Err NoPlace) ∷ []) (Ok tt)
+insertion_asked dim got t place = first_no (((got == dim), Err (other_length dim got)) ∷ (lt t clock_limit, Err ClockAtLimit) ∷ (place, Err NoPlace) ∷ []) (Ok tt)

@@ -33,28 +33,7 @@ impl From<OpenError> for u64 {
     }
 }
 
-// Why a point is not taken.
-#[derive(Clone, Copy, PartialEq, Eq)]
-pub enum InsertError {
-    Shape { expected: usize, got: usize },
-    ClockAtLimit,
-    NoPlace,
-}
-
-impl From<InsertError> for u64 {
-    ghost from_gives = { λ e n. n ≡ insert_error_number e };
-
-    // The refusal's number.
-    fn from(error: InsertError) -> u64 {
-        match error {
-            InsertError::Shape { .. } => 7,
-            InsertError::ClockAtLimit => 8,
-            InsertError::NoPlace => 9,
-        }
-    }
-}
-
-// Why a point is told no label: its length is not the stream's.
+// A point's length is not the stream's: why it is not taken, and why it is told no label.
 #[derive(Clone, Copy, PartialEq, Eq)]
 pub struct ShapeError {
     pub expected: usize,
@@ -67,6 +46,27 @@ impl From<ShapeError> for u64 {
     // The refusal's number.
     fn from(_error: ShapeError) -> u64 {
         7
+    }
+}
+
+// Why a point is not taken.
+#[derive(Clone, Copy, PartialEq, Eq)]
+pub enum InsertError {
+    Shape(ShapeError),
+    ClockAtLimit,
+    NoPlace,
+}
+
+impl From<InsertError> for u64 {
+    ghost from_gives = { λ e n. n ≡ insert_error_number e };
+
+    // The refusal's number.
+    fn from(error: InsertError) -> u64 {
+        match error {
+            InsertError::Shape(error) => error.into(),
+            InsertError::ClockAtLimit => 8,
+            InsertError::NoPlace => 9,
+        }
     }
 }
 

@@ -25,7 +25,7 @@ fn is_multiple(t: f64, period: f64) -> bool
     p != 0 && ticks(t) % p == 0
 }
 
-// The tick, and the ticks between two prunings. The monitor is no part of it: it would be copied in and out.
+// The tick, and the ticks between two prunings. The monitor is no part of it: it is the stream's own, and a clock is made for one tick.
 #[derive(Clone, Copy)]
 pub struct Clock {
     pub t: f64,

@@ -12,6 +12,14 @@ pub trait Micro {
         ensures { result.now ≡ body_of self.now };
 }
 
+impl Micro for Body {
+    ghost body_of = { λ b. b };
+
+    fn body(&self) -> &Body {
+        self
+    }
+}
+
 // A creation number: never a place in a list.
 #[derive(Clone, Copy, PartialEq, Eq, PartialOrd, Ord)]
 pub struct MicroId(pub u64);

@@ -3,7 +3,7 @@ ghost use Rattle.std.specs.Prelude.{◌≡◌, Ok};
 ghost use Rattle.model.specs.Questions.{dim_in_range, lambda_in_range, share_in_range, first_no, questions, insertion_asked};
 ghost use Rattle.model.specs.Questions as doc;
 
-use crate::answers::{InsertError, OpenError};
+use crate::answers::{InsertError, OpenError, ShapeError};
 use crate::limits::CLOCK;
 use feature::MAX_DIM;
 
@@ -62,7 +62,7 @@ pub fn insertion_asked(dim: usize, got: usize, t: f64, place: bool) -> Result<()
     ensures { result ≡ insertion_asked dim got t place }
 {
     if got != dim {
-        return Err(InsertError::Shape { expected: dim, got });
+        return Err(InsertError::Shape(ShapeError { expected: dim, got }));
     }
     if !(t < CLOCK) {
         return Err(InsertError::ClockAtLimit);

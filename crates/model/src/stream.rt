@@ -7,7 +7,8 @@ ghost use Rattle.model.specs.Told.{opened_told, inserted_told};
 use crate::answers::{InsertError, OpenError};
 use drift::DriftReport;
 
-// The answer, and the stream; beside a refusal stands one that was never opened.
+// The answer, and the stream. No Result with the stream in it: the document gives a stream back in each answer, beside a refusal one that was
+// never opened.
 #[derive(Clone, Copy)]
 pub struct Opened<S> {
     pub answer: Result<(), OpenError>,

@@ -9,7 +9,8 @@ use crate::PLACES;
 use std::array;
 use std::marker::Model;
 
-// The parent of each place, a root being its own, and the ranks of the roots: ranks rise with the parents.
+// The parent of each place, a root being its own, and the ranks of the roots: ranks rise with the parents. Two arrays, since finding
+// walks the parents alone: with pairs each step would take one apart.
 #[derive(Clone, Copy)]
 struct UnionFind {
     parent: [usize; PLACES],
@@ -51,7 +52,8 @@ struct Joins {
     work: Work,
 }
 
-// The root of each place that was sought, 0 at every other, and all finds that were made.
+// The root of each place that was sought, and all finds that were made. At every other place stands 0, which is not read: with an
+// Option each reader would have to say again which places were sought.
 #[derive(Clone, Copy)]
 pub struct Rooted {
     pub roots: [usize; PLACES],

@@ -1,6 +1,6 @@
 -- `each` meets its contract. Assumes nothing.
-use Rattle.std.proofs.Common.{rules, ◌≡◌, ℕ, ◌+◌, ◌<◌, ◌≤◌, min, refl, ap, ◌∙◌, sym, length, take, map, set, List, slice_index_or, arith, add-one, length-set}
-use Rattle.std.proofs.lemmas.List.{length-replicate}
+use Rattle.std.proofs.Common.{rules, ◌≡◌, ℕ, ◌+◌, ◌<◌, min, refl, ap, ◌∙◌, sym, length, take, map, set, List, slice_index_or, arith, add-one, length-set}
+use Rattle.std.proofs.lemmas.List.{length-replicate, length-take, get_or-take}
 use Rattle.std.proofs.Math.Seq.{take-suc, take-suc-set}
 use Rattle.std.proofs.lemmas.Fn.{says_at}
 use Rattle.lists.specs.Laws.Maps.{map_append}
@@ -25,10 +25,12 @@ loop-i-init g c = (length-replicate g.row.N c.args.none, λ f says. refl)
 pub loop-i-preserved : goal.loop-i-preserved
 loop-i-preserved g c =
     let at = c.loop-i in
-    let item = c.index-items-i in (
+    let xs = c.args.items.now in
+    let item = c.item-item in
+    let low : at.i < c.min.result = omega (arith, c.loop-i-test.true, length-take c.min.result xs) in (
       length-set at.all at.i c.part.result ∙ at.invariant.0,
-      λ f says. goes f c.args.items.now at.all at.i (at.invariant.1 f says) c.part.result item.result (search rules) (omega (arith, at.invariant.0, c.min-i-end.ensures))
-          (says _ _ (says_at g.F.Fn c.part.ensures refl)) item.is,
+      λ f says. goes f xs at.all at.i (at.invariant.1 f says) c.part.result item.result (search rules) (omega (arith, at.invariant.0, c.min.ensures))
+          (says _ _ (says_at g.F.Fn c.part.ensures refl)) (item.is ∙ get_or-take c.min.result xs at.i item.result low),
     )
 
 pub returns : goal.returns

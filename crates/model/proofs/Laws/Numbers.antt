@@ -4,7 +4,7 @@ use Rattle.std.proofs.Common.{ap, ◌∙◌}
 use Rattle.std.specs.Float.Ieee.{lt}
 use Rattle.model.specs.Limits.{clock_limit}
 use Rattle.model.specs.Answers.{opening_number, insertion_number, is_done, Insertion, Opening, is_open}
-use Rattle.model.specs.Questions.{first_no}
+use Rattle.model.specs.Questions.{first_no, other_length}
 use Rattle.model.specs.Numbers.{db_opening_no, den_opening_no, insertion_no, insertion_said}
 use Rattle.model.specs.Outcome.{Opened, Outcome}
 use Rattle.model.specs.Laws.Insert.{given_back}
@@ -38,7 +38,7 @@ unfolding insert_by
 insertion_said_lem {S} {P} {H} k s x o e =
     ap (λ (q : Outcome (State P H)). insertion_said q.answer) e
     ∙ first_no_lem insertion_said
-    (((length x == k.dim s.params), Err (Shape (k.dim s.params) (length x))) ∷ (lt s.t clock_limit, Err ClockAtLimit) ∷ (has_place k s x, Err NoPlace) ∷ []) (Ok tt)
+    (((length x == k.dim s.params), Err (other_length (k.dim s.params) (length x))) ∷ (lt s.t clock_limit, Err ClockAtLimit) ∷ (has_place k s x, Err NoPlace) ∷ []) (Ok tt)
 
 -- the three clauses of an insert, from the first: its answer a, v what becomes of s, r the stream that stands for it, came the one that came
 pub inserted_as :
@@ -82,6 +82,6 @@ open_ok (Err e) = error_shuts e
 
 -- an error refuses the point
 pub error_refuses : (e : InsertError) → is_done (Err e) ≡ false
-error_refuses (Shape expected got) = refl
+error_refuses (Shape e) = refl
 error_refuses ClockAtLimit = refl
 error_refuses NoPlace = refl

@@ -9,9 +9,9 @@ use Rattle.float.specs.Rounded.{nought}
 use Rattle.feature.specs.Feature.{max_dim}
 use Rattle.model.specs.Limits.{clock_limit}
 use Rattle.model.specs.Answers.{insertion_number, is_done, Insertion}
-use Rattle.model.specs.Questions.{first_no, insertion_asked}
+use Rattle.model.specs.Questions.{first_no, other_length, insertion_asked}
 use Rattle.model.specs.Point.{padded_of}
-use Rattle.model.specs.declared.answers.InsertError.TheVariants.{Shape, ClockAtLimit, NoPlace}
+use Rattle.model.specs.declared.answers.InsertError.TheVariants.{ClockAtLimit, NoPlace}
 
 pub never : {A : Type 0} → false ≡ true → A
 never e = absurd (true≢false (sym e))
@@ -32,21 +32,21 @@ module _ (dim got : ℕ) (t : Float) where
       (got ≡ dim → lt t clock_limit ≡ true → place ≡ true → P (Ok tt)) → P (insertion_asked dim got t place)
   asked_cases place P refuse accept = go (got == dim) (lt t clock_limit) place refl refl refl
     where
-      go : (b c d : Bool) → (got == dim) ≡ b → lt t clock_limit ≡ c → place ≡ d → P (first_no ((b, Err (Shape dim got)) ∷ (c, Err ClockAtLimit) ∷ (d, Err NoPlace) ∷ []) (Ok tt))
-      go false c d e f g = refuse (Err (Shape dim got)) refl
+      go : (b c d : Bool) → (got == dim) ≡ b → lt t clock_limit ≡ c → place ≡ d → P (first_no ((b, Err (other_length dim got)) ∷ (c, Err ClockAtLimit) ∷ (d, Err NoPlace) ∷ []) (Ok tt))
+      go false c d e f g = refuse (Err (other_length dim got)) refl
       go true false d e f g = refuse (Err ClockAtLimit) refl
       go true true false e f g = refuse (Err NoPlace) refl
       go true true true e f g = accept (eqb-true got dim e) f g
 
   -- a point of another length has the same answer with a place or without
-  other_length : (p q : Bool) → got ≢ dim → insertion_asked dim got t p ≡ insertion_asked dim got t q
-  other_length p q h =
+  other_answer : (p q : Bool) → got ≢ dim → insertion_asked dim got t p ≡ insertion_asked dim got t q
+  other_answer p q h =
       let e : nat_eq got dim ≡ false = ne_eqb got dim h in
-      ap (λ (b : Bool). cond b (cond (lt t clock_limit) (cond p (Ok tt) (Err NoPlace)) (Err ClockAtLimit)) (Err (Shape dim got))) e
-      ∙ sym (ap (λ (b : Bool). cond b (cond (lt t clock_limit) (cond q (Ok tt) (Err NoPlace)) (Err ClockAtLimit)) (Err (Shape dim got))) e)
+      ap (λ (b : Bool). cond b (cond (lt t clock_limit) (cond p (Ok tt) (Err NoPlace)) (Err ClockAtLimit)) (Err (other_length dim got))) e
+      ∙ sym (ap (λ (b : Bool). cond b (cond (lt t clock_limit) (cond q (Ok tt) (Err NoPlace)) (Err ClockAtLimit)) (Err (other_length dim got))) e)
 
   pub same_answer : (p q : Bool) → (got ≡ dim → p ≡ q) → insertion_asked dim got t p ≡ insertion_asked dim got t q
-  same_answer p q same = by_cases (ℕ_discrete got dim) (λ h. ap (insertion_asked dim got t) (same h)) (other_length p q)
+  same_answer p q same = by_cases (ℕ_discrete got dim) (λ h. ap (insertion_asked dim got t) (same h)) (other_answer p q)
 
   -- a point that is taken has dim coordinates, and a place
   pub taken_asks : (p : Bool) (a : Insertion) → a ≡ insertion_asked dim got t p → is_done a ≡ true → (got ≡ dim) × (p ≡ true)

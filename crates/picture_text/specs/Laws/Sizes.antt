@@ -61,7 +61,7 @@ opening_number_lem (Err BetaMu) = omega arith
 
 insertion_number_lem : (a : Insertion) → insertion_number a < 2 ^ 64
 insertion_number_lem (Ok _) = omega arith
-insertion_number_lem (Err (Shape expected got)) = omega arith
+insertion_number_lem (Err (Shape e)) = omega arith
 insertion_number_lem (Err ClockAtLimit) = omega arith
 insertion_number_lem (Err NoPlace) = omega arith
 

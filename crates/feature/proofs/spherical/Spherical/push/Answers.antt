@@ -1,7 +1,9 @@
 -- `Spherical::push` meets its contract. Assumes nothing.
-use Rattle.std.proofs.Common.{rules, refl, sym, ap, ◌∙◌, ◌≡◌, ◌<◌, ◌≤◌, ◌∷◌, arith, length, length-set, min, List, Float}
+use Rattle.std.proofs.Common.{rules, refl, sym, ap, ◌∙◌, ◌≡◌, ◌<◌, ◌≤◌, arith, length, length-set, min, List, Float}
+use Rattle.std.proofs.lemmas.List.{get_or-take}
+use lib.Ieee.{nan}
 use Rattle.lists.specs.Laws.Rest.{rest_start}
-use Rattle.feature.specs.Distance.{sum_from, sq_dist}
+use Rattle.feature.specs.Distance.{sq_dist}
 use Rattle.feature.specs.Feature.{moved}
 use Rattle.feature.specs.Laws.Turns.{moved_step, gaps_step, moved_end, gaps_end, moved_cut, sum_cut}
 use Rattle.feature.proofs.spherical.Spherical.push.Goals as goal
@@ -28,7 +30,8 @@ loop-i-preserved c =
     let q = s.invariant in
     let h : s.i < n = search rules in
     let lm : n ≤ length s.self.mean = omega arith in
-    let lx : n ≤ length x = omega arith in (
+    let lx : n ≤ length x = omega arith in
+    rw (get_or-take n x s.i nan h) (
       simp length-set q.0,
       q.1,
       q.2,
