@@ -1,6 +1,7 @@
 // What DBSTREAM and DenStream have in common: each is a stream of its kind.
-ghost use Rattle.std.specs.Prelude.{◌≡◌, length};
+ghost use Rattle.std.specs.Prelude.{◌≡◌, ◌≢◌, length};
 ghost use Rattle.drift.specs.Monitor.{report_of};
+ghost use Rattle.model.specs.Answers.{insertion_number};
 ghost use Rattle.model.specs.Stream.{State, Kind, open_of, insert_of, cluster_of, finds_of, steps_of};
 ghost use Rattle.model.specs.Told.{opened_told, inserted_told};
 
@@ -49,7 +50,8 @@ pub trait Stream {
 
     // A refused stream is the one that came.
     fn try_insert(self, x: &[f64]) -> Inserted<Self>
-        ensures { inserted_told view result ≡ insert_of kind (view self) x.now };
+        ensures result_value { inserted_told view result ≡ insert_of kind (view self) x.now }
+        ensures kept { insertion_number result.answer ≢ 0 → result.stream ≡ self };
 
     // Families: the labels, and the work that they took.
     fn cluster(self) -> Clustered<Self>
