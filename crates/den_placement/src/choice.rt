@@ -38,16 +38,11 @@ pub struct Placement {
 fn smaller(potential: Option<f64>, outlier: Option<f64>) -> Option<f64>
     ensures { result ≡ smaller_of potential outlier }
 {
-    let Some(a) = potential else {
-        return outlier;
-    };
-    let Some(b) = outlier else {
-        return potential;
-    };
-    if a < b {
-        return potential;
+    match (potential, outlier) {
+        (None, outlier) => outlier,
+        (Some(a), None) => Some(a),
+        (Some(a), Some(b)) => Some(if a < b { a } else { b }),
     }
-    outlier
 }
 
 // Where an outlier that absorbed the point belongs.
