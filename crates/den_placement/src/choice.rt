@@ -49,11 +49,11 @@ fn smaller(potential: Option<f64>, outlier: Option<f64>) -> Option<f64>
 fn grown(absorbed: &Absorbed, bm: f64) -> Target
     ensures { result ≡ grown_to bm absorbed.now }
 {
-    let cf = absorbed.micro.body.cf;
-    if bm <= cf.w {
-        return Target::Promotion(absorbed.place);
+    if bm <= absorbed.micro.body.cf.w {
+        Target::Promotion(absorbed.place)
+    } else {
+        Target::Outlier(absorbed.place)
     }
-    Target::Outlier(absorbed.place)
 }
 
 // The potential pool is tried first, then the outliers; else the point is a new outlier, where there is a place. Of a point as

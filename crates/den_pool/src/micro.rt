@@ -31,6 +31,6 @@ pub(crate) fn absorbed(m: &DenMicro, x: &[f64], lambda: f64, t: f64) -> DenMicro
 pub(crate) fn stands(m: &DenMicro, eps2: f64) -> bool
     ensures { result ≡ doc.stands eps2 m.now }
 {
-    let cf = m.body.cf;
+    let cf = &m.body.cf;
     0.0 < cf.w && cf.ssd / cf.w <= eps2
 }
