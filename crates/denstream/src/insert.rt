@@ -57,7 +57,8 @@ impl DenStream {
         Ok(())
     }
 
-    // The stream after the point; a refused stream is the one that came.
+    // The stream after the point; a refused stream is the one that came. dbstream has one like it, over an `insert` of its own; the
+    // definition and the laws of both are one, the model's `Kind`.
     pub fn try_insert(mut self, x: &[f64]) -> Inserted<DenStream>
         ensures result_value { inserted_told view result ≡ insert_of (view self) x.now }
         ensures kept { insertion_number result.answer ≢ 0 → result.stream ≡ self }
