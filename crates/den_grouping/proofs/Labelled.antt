@@ -54,7 +54,7 @@ sought_are pool d few =
     ∙ all_true pool micros_most few ∙ sym (map-map (λ (m : DenMicro). true) (micro_in d) pool)
 
 -- the roots stand among the places, whichever are sought
-pub roots_low :
+roots_low :
     (n : ℕ) (sought : List Bool) (es : List (ℕ × ℕ)) (roots : List ℕ) → n ≤ micros_most → length sought ≤ places → roots ≡ roots_in sought es →
     (i : ℕ) → i < n → get_or (take n roots) i 0 < micros_most
 roots_low n sought es roots h few e i k =
@@ -153,13 +153,17 @@ module _ (p : Params) (t : Float) (d : ℕ) (pool : List DenMicro) (few : length
       (roots : List ℕ) → roots ≡ roots_in sought es → (weights : List Float) →
       take n weights ≡ map (weight_of p.settings.lambda t) (take micros_most pool) →
       (sums : List Float) → sums ≡ sums_of roots (take n weights) → (counts : List Bool) →
-      take (length (take n roots)) counts ≡ map (λ (v : ℕ). le p.settings.mu (get_or sums v nan)) (take n roots) →
+      take (length (take n roots)) counts ≡ map (λ (v : ℕ). le p.settings.mu (get_or sums v nan)) (take micros_most (take n roots)) →
       (labels : List ℤ) → labels ≡ label.labels_in roots (take n counts) → take n labels ≡ labels_in p t (map (micro_in d) pool)
   grouped roots er weights ew sums es' counts ec labels el =
       labelled p t (map (micro_in d) pool) n (length-map pool (micro_in d)) few roots
-      (er ∙ ap₂ roots_in (sought_are pool d few) ee) (roots_low n sought es roots few (omega (arith, length-take places (take n (replicate micros_most true)))) er) (take n weights)
+      (er ∙ ap₂ roots_in (sought_are pool d few) ee)
+      (roots_low n sought es roots few (omega (arith, length-take places (take n (replicate micros_most true)))) er) (take n weights)
       (ew ∙ ap (map (weight_of p.settings.lambda t)) (take_all micros_most pool few) ∙ sym (map-map (weight_of p.settings.lambda t) (micro_in d) pool))
-      sums es' (take n counts) (ap (λ (k : ℕ). take k counts) (sym size) ∙ ec) labels el
+      sums es' (take n counts)
+      (ap (λ (k : ℕ). take k counts) (sym size) ∙ ec
+      ∙ ap (map (λ (v : ℕ). le p.settings.mu (get_or sums v nan))) (take_all micros_most (take n roots) (omega (arith, size))))
+      labels el
     where
       size : length (take n roots) ≡ n
       size = length-take-le n roots (omega (arith, ap length er, sought_length sought es))

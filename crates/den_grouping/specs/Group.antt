@@ -1,24 +1,11 @@
 -- DenStream's labels, and the finds that they take, of a list of potential micro-clusters. Definitions only.
-use Rattle.std.specs.Prelude.{ℕ, ◌+◌, true, List, [], ◌∷◌, map, ℤ, Float, drop}
+use Rattle.std.specs.Prelude.{ℕ, true, List, map, ℤ, Float}
 use Rattle.union_find.specs.Steps.{find_steps}
 use Rattle.model.specs.declared.micro.DenMicro.{DenMicro}
-use Rattle.model.specs.Limits.{links_most}
 use Rattle.model.specs.Families.{labels_by, counted_by}
 use Rattle.model.specs.DenState.{Params}
-use Rattle.model.specs.DenCluster.{row_from, pairs_from}
+use Rattle.model.specs.DenCluster.{pairs_from}
 use Rattle.den_pool.specs.Held.{weight_of}
-
--- the pairs of 64, as many as the links
-abbrev pub pairs_most : ℕ
-pairs_most = links_most
-
-abbrev pub row_of : (eps2 : Float) → (i : ℕ) → List DenMicro → List (ℕ × ℕ)
-row_of eps2 i [] = []
-row_of eps2 i (m ∷ rest) = row_from eps2 i m.body.cf.mean (i + 1) rest
-
--- the pairs of place i with the places behind it
-abbrev pub row_at : (eps2 : Float) → (i : ℕ) → List DenMicro → List (ℕ × ℕ)
-row_at eps2 i l = row_of eps2 i (drop i l)
 
 -- `labels_of` of a stream with these settings, clock and potential ones
 unfoldable pub labels_in : Params → (t : Float) → List DenMicro → List ℤ

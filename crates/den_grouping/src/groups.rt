@@ -1,5 +1,5 @@
 // Which groups count, and the labels of their members.
-ghost use Rattle.std.specs.Prelude.{◌≤◌, ◌<◌, min, ℕ, ◌≡◌, map, take, get_or, length};
+ghost use Rattle.std.specs.Prelude.{min, ℕ, ◌≡◌, map, take, get_or, length};
 ghost use Rattle.std.specs.Float.Ieee.{le};
 ghost use Rattle.std.specs.Float.{nan};
 ghost use Rattle.union_find.specs.Steps.{work_by};
@@ -8,22 +8,20 @@ ghost use Rattle.model.specs.Limits.{micros_most};
 ghost use Rattle.den_pool.specs.Held.{seen};
 ghost use Rattle.den_grouping.specs.Group.{labels_in, find_steps_in};
 
-use crate::pairs::{PAIRS, close_pairs};
+use crate::pairs::close_pairs;
 use feature::MAX_DIM;
 use labels::Labelled;
 use model::{DenMicro, DenParams, MICROS};
 
 // Which places' groups reach mu, by the sum at each place's root.
 fn reaching(roots: &[usize], sums: &[f64; MICROS], mu: f64) -> [bool; MICROS]
-    requires few { length roots.now ≤ micros_most }
-    requires low { (i : ℕ) → i < length roots.now → get_or roots.now i 0 < micros_most }
-    ensures { take (length roots.now) result ≡ map (λ (v : ℕ). le mu (get_or sums.now v nan)) roots.now }
+    ensures { take (length roots.now) result ≡ map (λ (v : ℕ). le mu (get_or sums.now v nan)) (take micros_most roots.now) }
 {
-    let mut counts = [false; MICROS];
-    for (i, &root) in roots.iter().enumerate() {
-        counts[i] = mu <= sums[root];
-    }
-    counts
+    lists::each(
+        roots,
+        false,
+        |root| sums.get(*root).is_some_and(|sum| mu <= *sum),
+    )
 }
 
 // The labels of the first 64 at the clock t. Roots are sought for all of them.
@@ -33,14 +31,8 @@ pub fn group_labels(pool: &[DenMicro], params: &DenParams, t: f64) -> Labelled
     ensures work { result.work ≡ work_by (find_steps_in params.now (seen (min params.now.settings.dim max_dim) micros_most pool.now)) }
 {
     let pool = &pool[..pool.len().min(MICROS)];
-    let mut pairs = [(0usize, 0usize); PAIRS];
-    let k = close_pairs(
-        pool,
-        params.settings.dim.min(MAX_DIM),
-        params.eps2,
-        &mut pairs,
-    );
-    let rooted = union_find::roots(&pairs[..k], &[true; MICROS][..pool.len()]);
+    let pairs = close_pairs(pool, params.settings.dim.min(MAX_DIM), params.eps2);
+    let rooted = union_find::roots(&pairs, &[true; MICROS][..pool.len()]);
     let weights = den_pool::faded_weights(pool, params.settings.lambda, t);
     let sums = labels::sums(&rooted.roots, &weights[..pool.len()]);
     let counts = reaching(&rooted.roots[..pool.len()], &sums, params.settings.mu);

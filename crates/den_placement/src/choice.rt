@@ -38,27 +38,22 @@ pub struct Placement {
 fn smaller(potential: Option<f64>, outlier: Option<f64>) -> Option<f64>
     ensures { result ≡ smaller_of potential outlier }
 {
-    let Some(a) = potential else {
-        return outlier;
-    };
-    let Some(b) = outlier else {
-        return potential;
-    };
-    if a < b {
-        return potential;
+    match (potential, outlier) {
+        (None, outlier) => outlier,
+        (Some(a), None) => Some(a),
+        (Some(a), Some(b)) => Some(if a < b { a } else { b }),
     }
-    outlier
 }
 
 // Where an outlier that absorbed the point belongs.
 fn grown(absorbed: &Absorbed, bm: f64) -> Target
     ensures { result ≡ grown_to bm absorbed.now }
 {
-    let cf = absorbed.micro.body.cf;
-    if bm <= cf.w {
-        return Target::Promotion(absorbed.place);
+    if bm <= absorbed.micro.body.cf.w {
+        Target::Promotion(absorbed.place)
+    } else {
+        Target::Outlier(absorbed.place)
     }
-    Target::Outlier(absorbed.place)
 }
 
 // The potential pool is tried first, then the outliers; else the point is a new outlier, where there is a place. Of a point as

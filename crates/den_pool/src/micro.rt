@@ -6,7 +6,8 @@ ghost use Rattle.model.specs.DenInsert as doc;
 
 use model::{Body, DenMicro};
 
-// A new one, of the point alone.
+// A new one, of the point alone. This and `absorbed` stand in db_neighbours too: each is a record of its own fields, a line or two
+// round `Body::birth` and `Body::absorbing`, which are shared.
 pub fn newborn(x: &[f64], t: f64) -> DenMicro
     ensures { result ≡ doc.newborn max_dim t x.now }
 {
@@ -20,10 +21,9 @@ pub fn newborn(x: &[f64], t: f64) -> DenMicro
 pub(crate) fn absorbed(m: &DenMicro, x: &[f64], lambda: f64, t: f64) -> DenMicro
     ensures { result ≡ absorbs lambda t x.now m.now }
 {
-    let old = m.body;
     DenMicro {
-        body: old.absorbing(x, lambda, t),
-        t0: m.t0,
+        body: m.body.absorbing(x, lambda, t),
+        ..*m
     }
 }
 
@@ -31,6 +31,6 @@ pub(crate) fn absorbed(m: &DenMicro, x: &[f64], lambda: f64, t: f64) -> DenMicro
 pub(crate) fn stands(m: &DenMicro, eps2: f64) -> bool
     ensures { result ≡ doc.stands eps2 m.now }
 {
-    let cf = m.body.cf;
+    let cf = &m.body.cf;
     0.0 < cf.w && cf.ssd / cf.w <= eps2
 }

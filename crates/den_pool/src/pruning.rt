@@ -5,7 +5,8 @@ ghost use Rattle.model.specs.DenInsert as doc;
 
 use model::{DenMicro, DenParams};
 
-// An outlier needs the more weight the older it is.
+// An outlier needs the more weight the older it is. The parameters and the clock come apart, here and in the crates above, as the
+// definitions take them: the stream keeps them apart, and a record of both would be made anew for each call.
 fn outlier_needs(t0: f64, params: &DenParams, t: f64) -> f64
     ensures { result ≡ outlier_needs params.now t t0 }
 {

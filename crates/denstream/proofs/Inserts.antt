@@ -2,15 +2,17 @@
 use Prim.Native.Nat.{ℕ}
 use native.Mathlib.Omega.{arith}
 use mathlib.Core.Path.{◌≡◌, refl, sym, ap, ◌∙◌, subst}
-use mathlib.Core.Bool.{Bool, true, false}
-use mathlib.Core.List.{List}
-use lib.Ieee.{Float}
+use mathlib.Core.Bool.{Bool, true, false, true≢false, cond}
+use mathlib.Core.List.{List, [], ◌∷◌}
+use lib.Ieee.{Float, lt}
 use lib.ListN.{length, take}
 use Rattle.std.proofs.lemmas.List.{take_all}
-use Rattle.std.specs.Prelude.{Option, None, Some}
+use Rattle.std.specs.Prelude.{Option, None, Some, Ok, Err, ◌==◌}
 use Rattle.std.specs.Option.{is_some}
 use Rattle.model.specs.Answers.{is_done, Insertion}
-use Rattle.model.specs.Questions.{insertion_asked}
+use Rattle.model.specs.Questions.{first_no, insertion_asked}
+use Rattle.model.specs.Limits.{clock_limit}
+use Rattle.model.specs.declared.answers.InsertError.TheVariants.{Shape, ClockAtLimit, NoPlace}
 use Rattle.model.specs.Laws.Insert.{taken_asks}
 use Rattle.model.proofs.Laws.Stream.{inserted_by}
 use Rattle.model.specs.declared.micro.DenMicro.{DenMicro}
@@ -48,38 +50,68 @@ all_looked_at p t x potential outliers r e w =
 abbrev pub Met : DenStream → List Float → Placement → Type 0
 Met s x p = length x ≡ dim_of s → placement_told (dim_of s) p ≡ placement_of (view s).params s.t (view s).held x
 
--- a is the answer to the questions about x, of which the last is whether p has a place
-module _ (s : DenStream) (x : List Float) (p : Placement) (m : Met s x p) (d : ℕ) (ed : d ≡ dim_of s)
-    (place : Bool) (ep : place ≡ is_some p.placed) (a : Insertion) (ea : a ≡ insertion_asked d (length x) s.t place) where
-  placing : length x ≡ d → Placing (view s) x (placement_told (dim_of s) p)
-  placing h = subst (Placing (view s) x) (sym (m (h ∙ ed))) (placing_law (view s) x)
+-- the last question apart: an answer that refuses with a place is the one without too; and after one that does not, the place decides
+module _ (dim got : ℕ) (t : Float) (place : Bool) (a : Insertion) (ea : a ≡ insertion_asked dim got t true) where
+  refuses : is_done a ≡ false → a ≡ insertion_asked dim got t place
+  refuses h = go (got == dim) (lt t clock_limit) ea
+    where
+      go :
+          (b c : Bool) → a ≡ first_no ((b, Err (Shape dim got)) ∷ (c, Err ClockAtLimit) ∷ (true, Err NoPlace) ∷ []) (Ok tt) →
+          a ≡ first_no ((b, Err (Shape dim got)) ∷ (c, Err ClockAtLimit) ∷ (place, Err NoPlace) ∷ []) (Ok tt)
+      go false c e = e
+      go true false e = e
+      go true true e = absurd (true≢false (sym (ap is_done e) ∙ h))
 
-  fits : length x ≡ d → place ≡ has_place (view s) x
-  fits h = ep ∙ told_some (dim_of s) p.placed ∙ (placing h).fits
+  decides : is_done a ≡ true → insertion_asked dim got t place ≡ cond place (Ok tt) (Err NoPlace)
+  decides h = go (got == dim) (lt t clock_limit) ea
+    where
+      go :
+          (b c : Bool) → a ≡ first_no ((b, Err (Shape dim got)) ∷ (c, Err ClockAtLimit) ∷ (true, Err NoPlace) ∷ []) (Ok tt) →
+          ◌≡◌ {A = Insertion} (first_no ((b, Err (Shape dim got)) ∷ (c, Err ClockAtLimit) ∷ (place, Err NoPlace) ∷ []) (Ok tt))
+          (cond place (Ok tt) (Err NoPlace))
+      go false c e = absurd (true≢false (sym h ∙ ap is_done e))
+      go true false e = absurd (true≢false (sym h ∙ ap is_done e))
+      go true true e = refl
 
-  -- r is the answer told
-  pub refused : (r : Insertion) → r ≡ a → is_done a ≡ false → record { answer = r; stream = view s } ≡ insert_of (view s) x
-  refused r e h =
-      ap (λ (i : Insertion). record { answer = i; stream = view s }) e
-      ∙ inserted_by denstream (view s) x d place (doc.placed (view s) x) (nearest_for (view s) x) a false (view s) ed fits
-      (λ h q. refl) (λ h. refl) ea (sym h) refl
+-- a is the answer about the point and the clock
+module _ (s : DenStream) (x : List Float) (d : ℕ) (ed : d ≡ dim_of s) (a : Insertion) (ea : a ≡ insertion_asked d (length x) s.t true) where
+  -- r is the answer to all questions, with this place
+  answered :
+      (place : Bool) → (length x ≡ d → place ≡ has_place (view s) x) → (r : Insertion) → r ≡ insertion_asked d (length x) s.t place → is_done r ≡ false →
+      record { answer = r; stream = view s } ≡ insert_of (view s) x
+  answered place fits r e h =
+      inserted_by denstream (view s) x d place (doc.placed (view s) x) (nearest_for (view s) x) r false (view s) ed fits
+      (λ k q. refl) (λ k. refl) e (sym h) refl
 
-  -- the point is taken
-  module _ (done : is_done a ≡ true) where
-    asks : (length x ≡ d) × (place ≡ true)
-    asks = taken_asks d (length x) s.t place a ea done
+  pub refused : is_done a ≡ false → (r : Insertion) → r ≡ a → record { answer = r; stream = view s } ≡ insert_of (view s) x
+  refused h r e = answered (has_place (view s) x) (λ k. refl) r (e ∙ refuses d (length x) s.t (has_place (view s) x) a ea h) (ap is_done e ∙ h)
 
-    pub there : is_some p.placed ≡ true
-    there = sym ep ∙ asks.1
+  -- both are well, and p is the placement
+  module _ (done : is_done a ≡ true) (p : Placement) (m : Met s x p) where
+    abbrev place : Bool
+    place = is_some p.placed
 
+    placing : length x ≡ d → Placing (view s) x (placement_told (dim_of s) p)
+    placing h = subst (Placing (view s) x) (sym (m (h ∙ ed))) (placing_law (view s) x)
+
+    fits : length x ≡ d → place ≡ has_place (view s) x
+    fits h = told_some (dim_of s) p.placed ∙ (placing h).fits
+
+    by_place : (o : Option Placed) → p.placed ≡ o → insertion_asked d (length x) s.t place ≡ cond (is_some o) (Ok tt) (Err NoPlace)
+    by_place o e = decides d (length x) s.t place a ea done ∙ ap (λ (q : Option Placed). cond (is_some q) (Ok tt) (Err NoPlace)) e
+
+    pub placeless : p.placed ≡ None → (r : Insertion) → r ≡ Err NoPlace → record { answer = r; stream = view s } ≡ insert_of (view s) x
+    placeless e r er = answered place fits r (er ∙ sym (by_place None e)) (ap is_done er)
+
+    -- the point is taken: k is where it goes, and v what becomes of the stream
     module _ (k : Placed) (e : p.placed ≡ Some k) where
       pub ready : Ready k.target (view s).held
-      ready = (placing asks.0).ready (record { target = k.target; micro = micro_in (dim_of s) k.micro }) (ap (placed_told (dim_of s)) e)
+      ready =
+          (placing (taken_asks d (length x) s.t true a ea done).0).ready (record { target = k.target; micro = micro_in (dim_of s) k.micro })
+          (ap (placed_told (dim_of s)) e)
 
-      -- v is what becomes of the stream
-      pub taken : (r : Insertion) → a ≡ r → (v : State) → v ≡ tick_of (placed_by s k) p.near → record { answer = r; stream = v } ≡ insert_of (view s) x
-      taken r ar v ev =
-          ap (λ (i : Insertion). record { answer = i; stream = v }) (sym ar)
-          ∙ inserted_by denstream (view s) x d place (held_by s k) p.near a true v ed fits
+      pub taken : (v : State) → v ≡ tick_of (placed_by s k) p.near → record { answer = Ok tt; stream = v } ≡ insert_of (view s) x
+      taken v ev =
+          inserted_by denstream (view s) x d place (held_by s k) p.near (Ok tt) true v ed fits
           (λ h q. (placing h).placed (record { target = k.target; micro = micro_in (dim_of s) k.micro }) (ap (placed_told (dim_of s)) e))
-          (λ h. (placing h).near) ea (sym done) ev
+          (λ h. (placing h).near) (sym (by_place (Some k) e)) refl ev

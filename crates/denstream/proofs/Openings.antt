@@ -1,10 +1,10 @@
 -- The opening of a stream: the law of any kind, of this one. Assumes nothing.
-use Prim.Native.Nat.{min}
+use Prim.Native.Nat.{ℕ, min}
 use mathlib.Core.Path.{◌≡◌, refl}
 use mathlib.Core.Bool.{Bool, cond}
-use lib.Ieee.{lt}
+use lib.Ieee.{Float, lt}
 use Rattle.std.specs.Prelude.{Ok, Err}
-use Rattle.float.specs.Rounded.{one}
+use Rattle.float.specs.Rounded.{nought, one}
 use Rattle.feature.specs.Feature.{max_dim}
 use Rattle.model.specs.declared.answers.OpenError.TheVariants.{BetaMu}
 use Rattle.model.specs.Answers.{opening_number, is_open, Opening}
@@ -29,6 +29,12 @@ unfolding stream.asked
 asked_of p =
     one_more (lt one (bm_of p.beta p.mu), Err BetaMu) (questions p.dim p.eps p.lambda p.beta p.mu)
     (refl, (refl, (refl, (refl, (refl, tt)))))
+
+-- the default of settings: all of them are 0
+pub zeros_are :
+    (dim : ℕ) (eps lambda beta mu : Float) → (dim ≡ 0) × ((eps ≡ nought) × ((lambda ≡ nought) × ((beta ≡ nought) × (mu ≡ nought)))) →
+    ◌≡◌ {A = Settings} (record { dim = dim; eps = eps; lambda = lambda; beta = beta; mu = mu }) denstream.zeros
+zeros_are dim eps lambda beta mu e = rw (e.0, e.1.0, e.1.1.0, e.1.1.1.0, e.1.1.1.1)
 
 -- both clauses: a is the answer, v the stream beside it
 pub opened :

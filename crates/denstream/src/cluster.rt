@@ -22,7 +22,8 @@ impl DenStream {
         work
     }
 
-    // The labels of the potential micro-clusters, the finds that they took and the halving steps of all these.
+    // The labels of the potential micro-clusters, the finds that they took and the halving steps of all these. dbstream has one like
+    // it, over a `relabel` of its own; the definition of both is one, the model's `Kind`.
     pub fn cluster(mut self) -> Clustered<DenStream>
         ensures stream_value { view result.stream ≡ cluster_of (view self) }
         ensures finds { result.finds ≡ finds_of (view self) }

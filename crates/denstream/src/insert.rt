@@ -41,6 +41,8 @@ impl DenStream {
         ensures told { inserted_told view (record { answer = result; stream = self.new }) ≡ insert_of (view self.old) x.now }
         ensures kept { insertion_number result ≢ 0 → self.new ≡ self.old }
     {
+        // Those about the point and the clock; the last one, for a place, is asked of the placement.
+        model::insertion_asked(self.dim(), x.len(), self.t, true)?;
         let placement = den_placement::place(
             self.potential(),
             self.outliers(),
@@ -48,16 +50,14 @@ impl DenStream {
             self.t,
             x,
         );
-        let has_place = placement.placed.is_some();
-        model::insertion_asked(self.dim(), x.len(), self.t, has_place)?;
-        if let Some(placed) = placement.placed {
-            self.put(placed);
-        }
+        let placed = placement.placed.ok_or(InsertError::NoPlace)?;
+        self.put(placed);
         self.advance(placement.near);
         Ok(())
     }
 
-    // The stream after the point; a refused stream is the one that came.
+    // The stream after the point; a refused stream is the one that came. dbstream has one like it, over an `insert` of its own; the
+    // definition and the laws of both are one, the model's `Kind`.
     pub fn try_insert(mut self, x: &[f64]) -> Inserted<DenStream>
         ensures result_value { inserted_told view result ≡ insert_of (view self) x.now }
         ensures kept { insertion_number result.answer ≢ 0 → result.stream ≡ self }

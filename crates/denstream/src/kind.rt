@@ -1,4 +1,5 @@
-// DenStream as a stream of its kind: its own calls under the names of the trait.
+// DenStream as a stream of its kind: its own calls under the names of the trait. dbstream has the same lines, on fields of its own,
+// which the trait could not name without a method for each.
 ghost use Rattle.model.specs.DenState.{Params, Holdings};
 ghost use Rattle.model.specs.Denstream.{denstream};
 ghost use Rattle.denstream.specs.View as own;

@@ -59,24 +59,19 @@ impl DenStream {
         }
     }
 
-    // The questions in order: the first no decides. Beside a refusal stands a stream whose settings are all 0.
+    // The questions in order: the first no decides. Beside a refusal stands a stream whose settings are all 0. dbstream has one like
+    // it, as `asked` and `fresh` are each stream's own; the definition and the laws of both are one, the model's `Kind`.
     pub fn new(settings: DenSettings) -> Opened<DenStream>
         ensures result_value { opened_told view result ≡ open_of settings }
         ensures said { opening_number result.answer ≡ den_opening_no settings }
     {
         let answer = asked(settings);
-        if answer.is_ok() {
-            let stream = DenStream::fresh(settings);
-            return Opened { answer, stream };
-        }
-        let zeros = DenSettings {
-            dim: 0,
-            eps: 0.0,
-            lambda: 0.0,
-            beta: 0.0,
-            mu: 0.0,
+        let kept = if answer.is_ok() {
+            settings
+        } else {
+            DenSettings::default()
         };
-        let stream = DenStream::fresh(zeros);
+        let stream = DenStream::fresh(kept);
         Opened { answer, stream }
     }
 }

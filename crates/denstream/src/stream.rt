@@ -8,7 +8,8 @@ use drift::{DriftMonitor, DriftReport};
 use feature::MAX_DIM;
 use model::{DenMicro, DenParams, MICROS};
 
-// What stands in dbstream too is a line or two on fields of its own. Arrays with counts of what they hold, since there is no heap; the pools never have more than 64 together.
+// Arrays of 64 with a count each are the form of document 01: a stream is Copy and passed by value, which an ArrayVec is not. The
+// pools never have more than 64 together. `dim` and `drift` stand in dbstream too, a line each on a field of the stream's own.
 #[derive(Clone, Copy)]
 pub struct DenStream {
     pub params: DenParams,
@@ -38,7 +39,7 @@ impl DenStream {
     }
 
     // The outliers held.
-    pub(crate) fn outliers(&self) -> &[DenMicro]
+    pub fn outliers(&self) -> &[DenMicro]
         ensures { result.now ≡ take (outliers_held self.now.potential_count self.now.outlier_count) self.now.outliers }
     {
         &self.outliers[..den_placement::outliers_held(self.potential_count, self.outlier_count)]

@@ -7,6 +7,9 @@ use crate::stream::DenStream;
 use model::Clock;
 
 impl DenStream {
+    // Both calls stand in dbstream too, since a trait could not name their fields without a method for each; the definition and the
+    // laws of both are one, the model's `Kind`.
+
     // The drift monitor, then t grows by 1, then, where t is a multiple of tp, the pruning.
     pub(crate) fn advance(&mut self, near: Option<f64>)
         ensures { view self.new ≡ tick_of (view self.old) near }

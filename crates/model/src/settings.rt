@@ -9,7 +9,7 @@ pub struct DbSettings {
     pub min_weight: f64,
 }
 
-#[derive(Clone, Copy)]
+#[derive(Clone, Copy, Default)]
 pub struct DenSettings {
     pub dim: usize,
     pub eps: f64,

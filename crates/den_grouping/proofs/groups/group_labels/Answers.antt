@@ -1,27 +1,19 @@
 -- `group_labels` meets its contract: of the first 64 micro-clusters. Assumes nothing.
-use Prim.Native.Nat.{ℕ, ◌≤◌, min}
+use Prim.Native.Nat.{◌≤◌, min}
 use mathlib.Core.Path.{◌≡◌, sym, ◌∙◌}
-use mathlib.Core.Bool.{Bool}
 use native.Mathlib.Omega.{arith}
 use lib.ListN.{length, take, length-take}
 use borrow.Author.Rules.{rules}
 use Rattle.std.proofs.lemmas.List.{take_min}
 use Rattle.lists.specs.Laws.Rest.{cut_take}
 use Rattle.model.specs.Limits.{micros_most}
-use Rattle.den_grouping.proofs.Labelled.{roots_low, grouped, worked}
+use Rattle.den_grouping.proofs.Labelled.{grouped, worked}
 use Rattle.den_grouping.proofs.groups.group_labels.Goals.{After-min}
 use Rattle.den_grouping.proofs.groups.group_labels.Goals as goal
 
 -- no more than 64 are lent on
 few : (c : goal.After-min) → length (take c.min.result c.args.pool.now) ≤ micros_most
 few c = omega (arith, length-take c.min.result c.args.pool.now)
-
-pub reaching-counts-requires-clause-low : goal.reaching-counts-requires-clause-low
-reaching-counts-requires-clause-low c =
-    let n : ℕ = length (take c.min.result c.args.pool.now) in
-    let roots = c.roots-rooted.result.roots in
-    λ i h. roots_low n _ _ roots (few (goal.at.reaching-counts-requires-clause-low c).After-min) (omega (arith, length-take {A = Bool})) c.roots-rooted.ensures.roots_value i
-    (omega (arith, length-take n roots))
 
 pub returns : goal.returns
 returns c =
@@ -32,7 +24,7 @@ returns c =
     let e : c.min.result ≡ min micros_most (length a.pool.now) = omega arith in
     let known : pool ≡ take micros_most a.pool.now = rw e (take_min micros_most a.pool.now) in
     let size : length c.labels.result ≡ micros_most = search rules in
-    let pairs = c.close_pairs-k.ensures.pairs_after in
+    let pairs = c.deref.ensures.0 ∙ c.close_pairs-pairs.ensures in
     let dim = c.min-2 in
     let held = cut_take (length pool) (length a.pool.now) micros_most c.labels.result (omega (arith, length-take c.min.result a.pool.now)) size in
     record {

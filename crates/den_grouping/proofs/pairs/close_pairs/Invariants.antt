@@ -1,5 +1,7 @@
-use Rattle.den_grouping.proofs.Rows.{Paired}
+use mathlib.Core.Path.{◌≡◌}
+use mathlib.Core.List.{◌++◌}
+use Rattle.den_grouping.proofs.Rows.{rows}
 use Rattle.den_grouping.proofs.pairs.close_pairs.Given as goal
 
 abbrev pub invariant-loop-i : goal.invariant-loop-i
-invariant-loop-i l = Paired l.eps2 l.dim l.pool l.pairs l.count l.i
+invariant-loop-i l = l.pairs.items ++ rows l.eps2 l.dim l.pool l.i ≡ rows l.eps2 l.dim l.pool 0
