@@ -8,7 +8,6 @@ ghost use Rattle.session.specs.Refused.{run_asked};
 ghost use Rattle.session.specs.Whole.{session_of};
 ghost use Rattle.session.specs.Told.{told};
 
-use crate::points::end_of;
 use crate::refusal::Refusal;
 use model::{Inserted, OpenError, Opened, Stream};
 
@@ -39,13 +38,13 @@ fn inserts<S: Stream>(stream: S, values: &[f64], lengths: &[usize], numbers: &mu
         ++ drop (length lengths.now) numbers.old }
 {
     let mut s = stream;
-    let mut at = 0;
+    let mut rest = values;
     for (i, length) in lengths.iter().enumerate() {
-        let end = end_of(at, *length, values.len());
-        let Inserted { answer, stream } = s.try_insert(&values[at..end]);
+        let (point, behind) = rest.split_at((*length).min(rest.len()));
+        let Inserted { answer, stream } = s.try_insert(point);
         s = stream;
         numbers[i] = model::number_of(answer);
-        at = end;
+        rest = behind;
     }
     s
 }
