@@ -37,10 +37,7 @@ pub(crate) fn letter(family: u64) -> u8
 fn mark(label: i64) -> u8
     ensures { result ≡ mark_of label }
 {
-    match u64::try_from(label) {
-        Ok(family) => letter(family),
-        Err(_) => WEAK,
-    }
+    u64::try_from(label).map_or(WEAK, letter)
 }
 
 // The figure at a place, or what is no number.
