@@ -22,7 +22,7 @@ fn clustered_text(stream: DbStream) -> Text
     families_lines::listing(&ids[..n], clustered.labels_told(), clustered.drift())
 }
 
-// A refusal is all that is printed.
+// A refusal is all that is printed. picture_text begins likewise; what both share is in input_session and in text's `refused`.
 fn text_of(input: &[u8]) -> Text
     ensures { text_of result ≡ families_text input.now }
 {
