@@ -8,7 +8,8 @@ ghost use Rattle.text.specs.Lent.{write_told, write_of};
 ghost use Rattle.families_text.specs.Families.{cluster_text, families_text};
 
 use dbstream::DbStream;
-use model::MICROS;
+use input_session::Session;
+use model::Stream;
 use text::{Text, TooShort};
 
 // The stream, clustered, as text.
@@ -18,23 +19,17 @@ fn clustered_text(stream: DbStream) -> Text
     let clustered = stream.cluster().stream;
     let n = clustered.micro_count();
     let ids = db_micro::ids_of(clustered.held());
-    let mut labels = [-1; MICROS];
-    let _read = db_readout::labels(&clustered, &mut labels);
-    let report = clustered.drift();
-    families_lines::listing(&ids[..n], &labels[..n], report)
+    families_lines::listing(&ids[..n], clustered.labels_told(), clustered.drift())
 }
 
-// A refusal is all that is printed.
+// A refusal is all that is printed. picture_text begins likewise; what both share is in input_session and in text's `refused`.
 fn text_of(input: &[u8]) -> Text
     ensures { text_of result ≡ families_text input.now }
 {
-    let session = input_session::session_of(input);
-    // By its number, since that is printed; 0 is none.
-    let number = session.number();
-    if number != 0 {
-        return text::refused(number);
+    let Session { answer, stream } = input_session::session_of(input);
+    if let Err(refusal) = answer {
+        return text::refused(refusal.into());
     }
-    let stream = session.stream;
     clustered_text(stream)
 }
 

@@ -1,4 +1,4 @@
-// The one reader of the programs that take a session from standard input.
+// The one reading of a whole input: `families` and `picture` lend it their standard input, picture_cases a reader that fails.
 #![tactic(auto)]
 
 ghost use Rattle.std.specs.Prelude.{◌≤◌, length, IfOk};

@@ -1,19 +1,23 @@
 -- Which session an input gives, question by question. Assumes nothing.
-use Rattle.std.specs.Prelude.{ℕ, ◌≡◌, ◌-◌, ◌*◌, ◌/◌, ◌≤◌, refl, Bool, true, false, ◌&&◌, cond, List, [], ◌∷◌, length, take, drop, leb, Ok, Err}
+use Rattle.std.specs.Prelude.{ℕ, ◌≡◌, ◌-◌, ◌*◌, ◌/◌, ◌≤◌, refl, Bool, true, false, ◌&&◌, cond, List, [], ◌∷◌, length, take, drop, eqb, leb, Ok, Err}
 use Rattle.std.proofs.Common.{sym, ap, ap₂, ◌∙◌, subst, true≢false, length-drop}
 use Rattle.std.proofs.Math.Seq.{take-length}
 use lib.Dec.{T, leb→le}
 use lib.Ieee.Fits.{and_l, and_r}
 use Rattle.words.specs.Word.{word_at}
 use Rattle.model.specs.declared.answers.OpenError.{OpenError}
-use Rattle.model.specs.declared.answers.OpenError.TheVariants.{Dim, Radius, Lambda, Share, Weight, BetaMu}
+use Rattle.model.specs.declared.answers.OpenError.TheVariants.{Dim, Radius, Lambda, Share, Weight}
 use Rattle.model.specs.Answers.{open_error_number, opening_number, is_open, Opening}
+use Rattle.model.proofs.Laws.Numbers.{open_ok, error_refuses}
 use Rattle.model.specs.Questions.{dim_in_range, positive, lambda_in_range, share_in_range, first_no}
 use Rattle.model.specs.Outcome.{Opened, Outcome}
 use Rattle.model.specs.Stream as stream
 use Rattle.model.specs.DbState.{Settings, State}
 use Rattle.model.specs.Dbstream.{open_of}
 use Rattle.input_session.specs.Input.{head_size, settings_in, points_from, points_in, is_whole}
+use Rattle.input_session.specs.declared.refusal.Refusal.{Refusal}
+use Rattle.input_session.specs.declared.refusal.Refusal.TheVariants as refusal
+use Rattle.input_session.specs.Refused.{refusal_number}
 use Rattle.input_session.specs.Session.{Ran, ran, insert_all, inserted_ran, opened_ran, ran_of}
 use Rattle.input_session.proofs.Runs.{points, points_behind}
 
@@ -37,13 +41,11 @@ in_range p o e h =
     let t : T (leb 1 p.dim && leb p.dim 15) = subst T (sym (open_dim p o e (ap is_open h))) tt in
     (leb→le 1 p.dim (and_l (leb 1 p.dim) (leb p.dim 15) t), leb→le p.dim 15 (and_r (leb 1 p.dim) (leb p.dim 15) t))
 
-not_opened : (e : OpenError) → is_open (Err e) ≡ false
-not_opened Dim = refl
-not_opened Radius = refl
-not_opened Lambda = refl
-not_opened Share = refl
-not_opened Weight = refl
-not_opened BetaMu = refl
+-- no refusal's number is 0
+pub no_nought : (r : Refusal) → eqb (refusal_number r) 0 ≡ false
+no_nought refusal.Input = refl
+no_nought (refusal.Opening e) = open_ok (Err e)
+no_nought (refusal.Insertion e) = error_refuses e
 
 -- the points are in the bytes behind the settings
 abbrev pub behind : List ℕ → List ℕ
@@ -80,7 +82,7 @@ module _ (bytes : List ℕ) (o : Opened State) (e : o ≡ open_of (settings_in b
     pub not_open : (r : OpenError) → o.answer ≡ Err r → ran (open_error_number r) o.stream ≡ ran_of bytes
     not_open r h =
         ap (λ (a : Opening). ran (opening_number a) o.stream) (sym h)
-        ∙ ap (λ (b : Bool). asked_of b (insert_all o.stream (points_in bytes))) (sym (ap is_open h ∙ not_opened r))
+        ∙ ap (λ (b : Bool). asked_of b (insert_all o.stream (points_in bytes))) (sym (ap is_open h ∙ open_ok (Err r)))
         ∙ whole
 
     pub inserted :

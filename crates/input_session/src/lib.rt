@@ -6,7 +6,6 @@ mod refusal;
 mod run;
 
 ghost use Rattle.std.specs.Prelude.{◌≡◌};
-ghost use Rattle.input_session.specs.Refused.{run_number};
 ghost use Rattle.input_session.specs.Session.{ran_of};
 ghost use Rattle.input_session.specs.Told.{ran_told};
 
@@ -18,15 +17,6 @@ pub use refusal::Refusal;
 pub struct Session {
     pub answer: Result<(), Refusal>,
     pub stream: DbStream,
-}
-
-impl Session {
-    // The refusal's number, or 0.
-    pub fn number(&self) -> u64
-        ensures { result ≡ run_number self.now.answer }
-    {
-        model::number_of(self.answer)
-    }
 }
 
 // The input is asked about first, then the opening, then each insert; the first refusal ends the session.

@@ -18,10 +18,7 @@ pub(crate) const WORD: usize = 8;
 fn are_whole(points: usize, dim: usize) -> bool
     ensures { result ≡ cond (dim_in_range dim) (eqb (points % (dim * 8)) 0) true }
 {
-    if !model::dim_in_range(dim) {
-        return true;
-    }
-    points % (dim * WORD) == 0
+    !model::dim_in_range(dim) || points.is_multiple_of(dim * WORD)
 }
 
 // Whether the length fits: the settings and whole points, and not too many.
@@ -29,7 +26,9 @@ pub(crate) fn is_whole(bytes: &[u8]) -> bool
     ensures { result ≡ is_whole bytes.now }
 {
     let n = bytes.len();
-    n <= INPUT && HEAD <= n && n % WORD == 0 && are_whole(n - HEAD, word_at(bytes, 0) as usize)
+    (HEAD..=INPUT).contains(&n)
+        && n.is_multiple_of(WORD)
+        && are_whole(n - HEAD, word_at(bytes, 0) as usize)
 }
 
 // The double in the eight bytes from a place on.

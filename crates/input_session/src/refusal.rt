@@ -5,7 +5,8 @@ ghost use Rattle.input_session.specs.Refused.{refusal_number};
 
 use model::{InsertError, OpenError};
 
-// The input is not settings and whole points, the opening was refused, or an insert.
+// The input is not settings and whole points, the opening was refused, or an insert. Each call has the list of what it alone can refuse:
+// session's has but the opening in common with this one.
 #[derive(Clone, Copy, PartialEq, Eq)]
 pub enum Refusal {
     Input,

@@ -9,14 +9,7 @@ use text::Text;
 pub fn rounded(x: f64) -> u64
     ensures { result ≡ rounded_of x }
 {
-    let y = x + 0.5;
-    if y > 0.0 {
-        if y < 100000.0 {
-            return std::num::truncating_f64_to_u64(y);
-        }
-        return 99999;
-    }
-    0
+    std::num::saturating_f64_to_u64(x + 0.5).min(99_999)
 }
 
 // A number of tenths, with a sign.

@@ -32,7 +32,8 @@ fn framed(frame: u8, mark: u8) -> u8
     if mark == b' ' { frame } else { mark }
 }
 
-// A line of cells, marks over the frame. That the row is in the grid is asked here and below alone, too little for a type.
+// A line of cells, marks over the frame. That the row is in the grid is asked of this and the next two functions, too little for a type;
+// its cells as the parameter, in place of its number, would be asked for their length, and a row's figure needs the number too.
 fn add_line(text: &mut Text, frame: &[u8; WIDTH], cells: &[u8; CELLS], row: usize)
     requires { row ≤ 20 }
     ensures { Added text.old (line_text frame.now cells.now row) text.new }

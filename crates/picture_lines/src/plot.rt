@@ -10,16 +10,6 @@ use crate::row::{Row, WEAK};
 use picture_grid::{CELLS, Plot, RIGHT, TOP, Upward, WIDTH};
 use text::Text;
 
-// In tenths.
-fn upward(up: Upward, row: &Row) -> f64
-    ensures { result ≡ upward_of up row.now }
-{
-    match up {
-        Upward::BeatError => row.beat_error,
-        Upward::Amplitude => row.amplitude * 10.0,
-    }
-}
-
 // The first cell is the frame's, the second has the figure low; the last is the frame's again.
 fn cell(low: f64, step: f64, last: usize, x: f64) -> usize
     ensures { result ≡ cell_of low step last x }
@@ -27,21 +17,34 @@ fn cell(low: f64, step: f64, last: usize, x: f64) -> usize
     (picture_grid::rounded((x - low) / step + 1.0) as usize).min(last)
 }
 
-// A column is 2 s/d from -60 on.
-fn place(up: Upward, row: &Row) -> usize
-    ensures value { result ≡ place_of up row.now }
-    ensures upper_bound { result < 1323 }
-{
-    let line = cell(up.low() as f64, up.step() as f64, TOP, upward(up, row));
-    let column = cell(-60.0, 2.0, RIGHT, row.rate);
-    line * WIDTH + column
-}
+// Where a row stands in the grid that shows a figure upwards.
+impl Row {
+    // In tenths.
+    fn upward(&self, up: Upward) -> f64
+        ensures { result ≡ upward_of up self.now }
+    {
+        match up {
+            Upward::BeatError => self.beat_error,
+            Upward::Amplitude => self.amplitude * 10.0,
+        }
+    }
 
-// What is no number has no place.
-fn is_hidden(up: Upward, row: &Row) -> bool
-    ensures { result ≡ is_hidden up row.now }
-{
-    row.rate.is_nan() || upward(up, row).is_nan()
+    // A column is 2 s/d from -60 on.
+    fn place(&self, up: Upward) -> usize
+        ensures value { result ≡ place_of up self.now }
+        ensures upper_bound { result < 1323 }
+    {
+        let line = cell(up.low() as f64, up.step() as f64, TOP, self.upward(up));
+        let column = cell(-60.0, 2.0, RIGHT, self.rate);
+        line * WIDTH + column
+    }
+
+    // What is no number has no place.
+    fn is_hidden(&self, up: Upward) -> bool
+        ensures { result ≡ is_hidden up self.now }
+    {
+        self.rate.is_nan() || self.upward(up).is_nan()
+    }
 }
 
 // What stands in a cell where a mark comes: a dot covers nothing.
@@ -61,11 +64,11 @@ fn add_mark(plot: &mut Plot, up: Upward, row: &Row)
     ensures value { plot.new ≡ marked up plot.old row.now }
     ensures hidden_bound { plot.new.hidden ≤ plot.old.hidden + 1 }
 {
-    if is_hidden(up, row) {
+    if row.is_hidden(up) {
         plot.hidden += 1;
         return;
     }
-    let at = place(up, row);
+    let at = row.place(up);
     plot.cells[at] = over(plot.cells[at], row.mark);
 }
 

@@ -37,10 +37,7 @@ pub(crate) fn letter(family: u64) -> u8
 fn mark(label: i64) -> u8
     ensures { result ≡ mark_of label }
 {
-    match u64::try_from(label) {
-        Ok(family) => letter(family),
-        Err(_) => WEAK,
-    }
+    u64::try_from(label).map_or(WEAK, letter)
 }
 
 // The figure at a place, or what is no number.
@@ -50,7 +47,8 @@ fn figure(figures: &[f64], i: usize) -> f64
     figures.get(i).copied().unwrap_or(f64::NAN)
 }
 
-// The row of the micro-cluster at a place.
+// The row of the micro-cluster at a place. Three slices, as the read-outs fill them: a struct of three references, made for the two calls
+// below `drawn`, would be no plainer.
 fn row_at(centres: &[f64], weights: &[f64], labels: &[i64], i: usize) -> Row
     requires { i < micros_most }
     ensures { result ≡ row_at centres.now weights.now labels.now i }

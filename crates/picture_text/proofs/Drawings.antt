@@ -1,36 +1,42 @@
 -- What a clustered stream's read-outs give is its drawing. Assumes nothing.
-use Prim.Native.Nat.{ℕ, min}
-use mathlib.Core.Path.{◌≡◌, ap, ◌∙◌}
-use mathlib.Core.List.{List}
-use lib.IntN.{negsuc}
-use lib.ListN.{length, replicate}
+use Rattle.std.specs.Prelude.{ℕ, ◌≡◌, ◌≤◌, refl, min, List, ℤ, length}
+use Rattle.std.proofs.Common.{arith, ap, ap₂, ◌∙◌}
+use Rattle.std.proofs.lemmas.List.{length-map}
+use Rattle.labels.proofs.Laws.Label.{labels_tell}
 use Rattle.drift.specs.declared.DriftReport.{DriftReport}
 use Rattle.drift.specs.Monitor.{report_of}
 use Rattle.model.specs.Limits.{micros_most}
-use Rattle.model.specs.ReadOut.{LabelsRead, Statistics}
+use Rattle.model.specs.Families.{labels_by}
+use Rattle.model.specs.ReadOut.{Statistics}
 use Rattle.model.specs.DbState.{State}
-use Rattle.model.specs.Dbstream.{cluster_of, labels_read_of}
+use Rattle.model.specs.DbCluster.{is_strong, strong_ones, joins_of, labels_of}
+use Rattle.model.specs.Dbstream.{cluster_of}
 use Rattle.picture_lines.specs.Picture.{page_of}
 use Rattle.picture_text.specs.Picture.{figures_of, drawn_of}
 
-abbrev page : ℕ → Statistics → LabelsRead → DriftReport → List ℕ
-page n figures labels report = page_of (min n micros_most) figures.centres figures.weights labels.labels report.alarms
+-- one label for each
+label_count : (s : State) → length s.held.micros ≤ micros_most → length (labels_of s) ≡ length s.held.micros
+unfolding labels_of labels_by
+label_count s h =
+    let e : length (strong_ones s) ≡ length s.held.micros = length-map s.held.micros (is_strong s) in
+    let k : length (strong_ones s) ≤ micros_most = omega arith in
+    (labels_tell (length (strong_ones s)) k (joins_of s s.held.links) (strong_ones s) refl).count ∙ e
 
-abbrev read : State → LabelsRead
-read s = labels_read_of s (replicate micros_most (negsuc 0))
+abbrev page : ℕ → Statistics → List ℤ → DriftReport → List ℕ
+page n figures labels report = page_of (min n micros_most) figures.centres figures.weights labels report.alarms
 
 pub drawing :
-    (s u : State) (n : ℕ) (figures : Statistics) (labels : LabelsRead) (report : DriftReport) →
+    (s u : State) (figures : Statistics) (labels : List ℤ) (report : DriftReport) →
+    length u.held.micros ≤ micros_most →
     u ≡ cluster_of s →
-    n ≡ length u.held.micros →
     figures ≡ figures_of u →
-    labels ≡ labels_read_of u (replicate micros_most (negsuc 0)) →
+    labels ≡ u.labels →
     report ≡ report_of u.drift →
-    page_of (min n micros_most) figures.centres figures.weights labels.labels report.alarms ≡ drawn_of s
+    page_of (min (length labels) micros_most) figures.centres figures.weights labels report.alarms ≡ drawn_of s
 unfolding drawn_of
-drawing s u n figures labels report e count stats told drift =
-    ap (λ (k : ℕ). page k figures labels report) count
-    ∙ ap (λ (f : Statistics). page (length u.held.micros) f labels report) stats
-    ∙ ap (λ (l : LabelsRead). page (length u.held.micros) (figures_of u) l report) told
-    ∙ ap (page (length u.held.micros) (figures_of u) (read u)) drift
-    ∙ ap (λ (v : State). page (length v.held.micros) (figures_of v) (read v) (report_of v.drift)) e
+drawing s u figures labels report few e stats told drift =
+    let held : length u.held.micros ≡ length s.held.micros = ap (λ (v : State). length v.held.micros) e in
+    let is : labels ≡ labels_of s = told ∙ ap (λ (v : State). v.labels) e in
+    let n : length labels ≡ length s.held.micros = ap length is ∙ label_count s (omega arith) in
+    ap₂ (λ (k : ℕ) (f : Statistics). page k f labels report) n (stats ∙ ap figures_of e)
+    ∙ ap₂ (page (length s.held.micros) (figures_of (cluster_of s))) is (drift ∙ ap (λ (v : State). report_of v.drift) e)

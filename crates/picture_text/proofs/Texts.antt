@@ -1,30 +1,35 @@
 -- Which text a session gives. Assumes nothing.
-use Prim.Native.Nat.{ℕ}
-use mathlib.Core.Path.{◌≡◌, sym, ap, ap₂, ◌∙◌}
-use mathlib.Core.Logic.{◌≢◌}
-use mathlib.Core.Bool.{Bool, cond}
-use mathlib.Core.List.{List}
-use borrow.Author.Tests.{eq-eqb, ne_eqb}
-use lib.Dec.{eqb}
+use Rattle.std.specs.Prelude.{ℕ, ◌≡◌, ◌≢◌, Bool, cond, List, eqb, Ok, Err}
+use Rattle.std.proofs.Common.{sym, ap, ◌∙◌, eq-eqb, ne_eqb}
 use Rattle.text.specs.Ascii.{ascii}
 use Rattle.text.specs.Refusal.{refused_line}
-use Rattle.input_session.specs.Session.{Ran, ran_of}
-use Rattle.picture_text.specs.Picture.{drawn_of, ran_text, picture_text}
+use Rattle.dbstream.specs.View.{view}
+use Rattle.input_session.specs.declared.Session.{Session}
+use Rattle.input_session.specs.declared.refusal.Refusal.{Refusal}
+use Rattle.input_session.specs.Refused.{Run, run_number, refusal_number}
+use Rattle.input_session.specs.Session.{ran_of}
+use Rattle.input_session.specs.Told.{ran_told}
+use Rattle.input_session.proofs.Sessions.{no_nought}
+use Rattle.picture_text.specs.Picture.{drawn_of, dim_text, ran_text, picture_text}
 
-module _ (bytes : List ℕ) (r : Ran) (e : r ≡ ran_of bytes) where
-  is : ran_text r ≡ picture_text bytes
+module _ (bytes : List ℕ) (s : Session) (e : ran_told s ≡ ran_of bytes) where
+  abbrev told : Run → List ℕ
+  told a = cond (eqb (run_number a) 0) (dim_text (view s.stream)) (refused_line (run_number a))
+
+  is : told s.answer ≡ picture_text bytes
   unfolding picture_text
   is = ap ran_text e
 
-  abbrev told : (done three : Bool) → List ℕ
-  told done three = cond done (cond three (drawn_of r.stream) (ascii "a picture needs dim 3\n")) (refused_line r.number)
+  pub refused : (r : Refusal) → s.answer ≡ Err r → refused_line (refusal_number r) ≡ picture_text bytes
+  refused r h =
+      sym (ap told h ∙ ap (λ (b : Bool). cond b (dim_text (view s.stream)) (refused_line (refusal_number r))) (no_nought r)) ∙ is
 
-  pub refused : r.number ≢ 0 → refused_line r.number ≡ picture_text bytes
-  refused h = ap (λ (b : Bool). told b (eqb r.stream.params.settings.dim 3)) (sym (ne_eqb r.number 0 h)) ∙ is
+  module _ (h : s.answer ≡ Ok tt) where
+    abbrev drawn : Bool → List ℕ
+    drawn three = cond three (drawn_of (view s.stream)) (ascii "a picture needs dim 3\n")
 
-  module _ (h : r.number ≡ 0) where
-    pub other_dim : r.stream.params.settings.dim ≢ 3 → ascii "a picture needs dim 3\n" ≡ picture_text bytes
-    other_dim d = ap₂ told (sym (eq-eqb r.number 0 h)) (sym (ne_eqb r.stream.params.settings.dim 3 d)) ∙ is
+    pub other_dim : (view s.stream).params.settings.dim ≢ 3 → ascii "a picture needs dim 3\n" ≡ picture_text bytes
+    other_dim d = ap drawn (sym (ne_eqb (view s.stream).params.settings.dim 3 d)) ∙ sym (ap told h) ∙ is
 
-    pub three : r.stream.params.settings.dim ≡ 3 → drawn_of r.stream ≡ picture_text bytes
-    three d = ap₂ told (sym (eq-eqb r.number 0 h)) (sym (eq-eqb r.stream.params.settings.dim 3 d)) ∙ is
+    pub three : (view s.stream).params.settings.dim ≡ 3 → drawn_of (view s.stream) ≡ picture_text bytes
+    three d = ap drawn (sym (eq-eqb (view s.stream).params.settings.dim 3 d)) ∙ sym (ap told h) ∙ is

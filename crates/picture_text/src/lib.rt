@@ -8,7 +8,8 @@ ghost use Rattle.text.specs.Lent.{write_told, write_of};
 ghost use Rattle.picture_text.specs.Picture.{drawn_of, picture_text};
 
 use dbstream::DbStream;
-use model::MICROS;
+use input_session::Session;
+use model::{MICROS, Stream};
 use picture_lines::CENTRES;
 use text::{Text, TooShort};
 
@@ -19,18 +20,21 @@ const FIGURES: usize = 3;
 fn drawn(stream: DbStream) -> Text
     ensures { text_of result ≡ take room (drawn_of (view stream)) }
 {
-    let told = stream.cluster();
-    let clustered = told.stream;
+    let clustered = stream.cluster().stream;
     let mut centres = [0.0; CENTRES];
     let mut weights = [0.0; MICROS];
     let mut radii = [0.0; MICROS];
+    // Not refused: there is a place for all that a stream holds.
     let _stats = db_readout::micro_stats(&clustered, &mut centres, &mut weights, &mut radii);
-    let mut labels = [-1; MICROS];
-    let _labels = db_readout::labels(&clustered, &mut labels);
-    let report = clustered.drift();
-    let n = clustered.micro_count();
+    let labels = clustered.labels_told();
     let mut text = Text::new();
-    picture_lines::drawn(&mut text, &centres, &weights, &labels[..n], report.alarms);
+    picture_lines::drawn(
+        &mut text,
+        &centres,
+        &weights,
+        labels,
+        clustered.drift().alarms,
+    );
     text
 }
 
@@ -38,13 +42,10 @@ fn drawn(stream: DbStream) -> Text
 fn text_of(input: &[u8]) -> Text
     ensures { text_of result ≡ picture_text input.now }
 {
-    let session = input_session::session_of(input);
-    // By its number, since that is printed; 0 is none.
-    let number = session.number();
-    if number != 0 {
-        return text::refused(number);
+    let Session { answer, stream } = input_session::session_of(input);
+    if let Err(refusal) = answer {
+        return text::refused(refusal.into());
     }
-    let stream = session.stream;
     if stream.dim() != FIGURES {
         let mut text = Text::new();
         text.add(b"a picture needs dim 3\n");

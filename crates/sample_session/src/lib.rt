@@ -98,7 +98,7 @@ fn add_word(text: &mut Text, word: u64)
     text.add(&word.to_le_bytes());
 }
 
-// The bits of a double; a NaN is written as 0.
+// The bits of a double; a NaN, which no figure here is, is written as 0. picture_cases has its own, since it writes NaNs.
 fn add_double(text: &mut Text, x: f64)
     ensures { Added text.old (double_bytes x) text.new }
 {

@@ -3,7 +3,6 @@
 
 mod db;
 mod den;
-mod points;
 mod refusal;
 mod whole;
 

@@ -3,13 +3,14 @@ ghost use Rattle.std.specs.Prelude.{◌≡◌};
 ghost use Rattle.session.specs.declared.refusal.Refusal.TheVariants.{Opening};
 ghost use Rattle.session.specs.Refused.{refusal_number};
 
-use model::OpenError;
+use model::{OpenError, TooShort};
 
-// The opening's refusal, or a lent slice without a place for each insert's number.
+// The opening's refusal, or a lent slice without a place for each insert's number. Each call has the list of what it alone can refuse:
+// input_session's has but the opening in common with this one.
 #[derive(Clone, Copy, PartialEq, Eq)]
 pub enum Refusal {
     Opening(OpenError),
-    TooShort,
+    TooShort(TooShort),
 }
 
 impl From<OpenError> for Refusal {
@@ -27,7 +28,7 @@ impl From<Refusal> for u64 {
     fn from(refusal: Refusal) -> u64 {
         match refusal {
             Refusal::Opening(error) => error.into(),
-            Refusal::TooShort => 10,
+            Refusal::TooShort(error) => error.into(),
         }
     }
 }

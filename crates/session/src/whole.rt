@@ -8,9 +8,8 @@ ghost use Rattle.session.specs.Refused.{run_asked};
 ghost use Rattle.session.specs.Whole.{session_of};
 ghost use Rattle.session.specs.Told.{told};
 
-use crate::points::end_of;
 use crate::refusal::Refusal;
-use model::{Inserted, OpenError, Opened, Stream};
+use model::{Inserted, OpenError, Opened, Stream, TooShort};
 
 // Whether the run was refused, and the stream.
 #[derive(Clone, Copy)]
@@ -25,12 +24,14 @@ fn asked(opening: Result<(), OpenError>, due: usize, places: usize) -> Result<()
 {
     opening?;
     if places < due {
-        return Err(Refusal::TooShort);
+        return Err(Refusal::TooShort(TooShort));
     }
     Ok(())
 }
 
 // Every insert in order; each gets the stream that the one before it gave back, refused or not.
+// Three arrays of the caller's, as the exported function takes them: the values one after another, the length of each insert, and a place
+// for its number, document 01's lent slice. Numbers and no answers, since C reads them: 0, or the refusal's.
 fn inserts<S: Stream>(stream: S, values: &[f64], lengths: &[usize], numbers: &mut [u64]) -> S
     requires { length lengths.now ≤ length numbers.old }
     ensures result_value { S.view result ≡ run_of (insert_of S.kind) (S.view stream) (points_of lengths.now values.now) }
@@ -39,13 +40,13 @@ fn inserts<S: Stream>(stream: S, values: &[f64], lengths: &[usize], numbers: &mu
         ++ drop (length lengths.now) numbers.old }
 {
     let mut s = stream;
-    let mut at = 0;
+    let mut rest = values;
     for (i, length) in lengths.iter().enumerate() {
-        let end = end_of(at, *length, values.len());
-        let Inserted { answer, stream } = s.try_insert(&values[at..end]);
+        let (point, behind) = rest.split_at((*length).min(rest.len()));
+        let Inserted { answer, stream } = s.try_insert(point);
         s = stream;
         numbers[i] = model::number_of(answer);
-        at = end;
+        rest = behind;
     }
     s
 }

@@ -8,11 +8,13 @@ use model::TooShort;
 // Room for every text of the programs: `families` has 64 lines of at most 43 bytes and a last one of at most 56, a picture at most 9,628 bytes.
 pub const ROOM: usize = 16384;
 
-// The first `len` of the bytes: a text without a heap.
+// The first `len` of the bytes. An array with a count, document 01's form of a Vec: so a text is Copy and given back by value, as an
+// ArrayVec is not.
 #[derive(Clone, Copy)]
 pub struct Text {
     pub bytes: [u8; ROOM],
     pub len: usize,
+    // It always holds: so many bytes the array has.
     ghost full: { length bytes ≡ 16384 },
 }
 
@@ -67,10 +69,10 @@ impl Text {
     }
 
     // A sign if it is below 0, and the digits.
-    pub fn add_integer(&mut self, n: i64)
-        ensures { Added self.old (integer n) self.new }
+    pub fn add_integer(&mut self, value: i64)
+        ensures { Added self.old (integer value) self.new }
     {
-        self.add(Buffer::new().format(n).as_bytes());
+        self.add(Buffer::new().format(value).as_bytes());
     }
 
     // A sign and a number of at least as many places as the width says, blanks in front.
@@ -84,7 +86,9 @@ impl Text {
         self.add(digits);
     }
 
-    // All of it at the start of the output, if that has a place for each byte.
+    // All of it at the start of the output, if that has a place for each byte: how many they are. A count, and no slice of what was
+    // written: as for document 01's read-outs the contract tells the whole lent slice afterwards, so it stays the caller's to cut, and
+    // `in_bounds`, here and in the calls above, is that the cut is inside.
     pub fn write(&self, output: &mut [u8]) -> Result<usize, TooShort>
         ensures told { write_told result output.new ≡ write_of (text_of self.now) output.old }
         ensures in_bounds { IfOk result (λ n. n ≤ length output.new) }

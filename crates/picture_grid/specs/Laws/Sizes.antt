@@ -16,7 +16,7 @@ use Rattle.picture_grid.specs.Upward.{low_of, step_of, title_of}
 use Rattle.picture_grid.specs.Grid.{cell_text, line_text, border, sides, axis, border_text, row_text, rows_text, hidden_text, grid_text}
 
 -- what is below 100,000 is cut to a number below it
-cut_below : (x : Float) → lt x limit ≡ true → to_unsigned 64 x < 10 ^ 5
+pub cut_below : (x : Float) → lt x limit ≡ true → to_unsigned 64 x < 10 ^ 5
 unfolding lt of_bits to_unsigned
 cut_below nan h = omega arith
 cut_below (inf true) h = omega arith

@@ -93,6 +93,16 @@ module _
         ∙ sym (by_answer insert cluster o lengths values lent o.answer (leb (length lengths) (length lent)) refl refl)
         ∙ ap (λ (q : Opened S). session_of insert cluster q (points_of lengths values) lent) is
 
+    -- and what it tells where it goes on: the numbers of the inserts, and their run's stream, clustered
+    pub ran :
+        (numbers : List ℕ) (run s : S) →
+        Ok tt ≡ run_asked o.answer (length lengths) (length lent) →
+        numbers ≡ map insertion_number (answers_of insert o.stream (points_of lengths values)) ++ drop (length lengths) lent →
+        run ≡ run_of insert o.stream (points_of lengths values) →
+        s ≡ cluster run →
+        record { number = 0; numbers = numbers; stream = s } ≡ session_of insert cluster given (points_of lengths values) lent
+    ran numbers run s asked n r e = rw (e, r, n) (answered (Ok tt) asked)
+
 is_open : (a : Opening) → opening_number a ≡ 0 → a ≡ Ok tt
 is_open (Ok _) e = refl
 is_open (Err r) e = absurd (true≢false (sym (eq-eqb (open_error_number r) 0 e) ∙ error_number r))

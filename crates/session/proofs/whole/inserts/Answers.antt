@@ -18,7 +18,8 @@ loop-i-preserved g c =
     let r = c.try_insert-answer in
     let n = c.number_of in
     going_on (insert_of k.kind) a.lengths.now a.values.now (k.view a.stream) (k.view l.s) _ a.numbers.now l.numbers
-    l.i l.at c.end_of-end.result n.result l.invariant c.loop-i-test.true c.requires c.end_of-end.ensures r.ensures
+    l.i c.min.result n.result l.rest.now c.split_at.result.0.now c.split_at.result.1.now l.invariant c.loop-i-test.true c.requires c.min.ensures
+    c.split_at.ensures.front c.split_at.ensures.back r.ensures
     (number_of_insertion r.result.answer n.ensures)
 
 pub returns : goal.returns
@@ -26,6 +27,6 @@ returns g c =
     let a = c.args in
     let k = g.S.Stream in
     let l = c.loop-i in
-    let all = going_end (insert_of k.kind) a.lengths.now a.values.now (k.view a.stream) (k.view l.s) a.numbers.now l.numbers l.i l.at l.invariant
+    let all = going_end (insert_of k.kind) a.lengths.now a.values.now (k.view a.stream) (k.view l.s) a.numbers.now l.numbers l.i l.rest.now l.invariant
     c.loop-i-test.false in
     record { result_value = all.0; numbers_after = all.1 }

@@ -5,4 +5,4 @@ use Rattle.session.proofs.whole.inserts.Given as goal
 abbrev pub invariant-loop-i : goal.invariant-loop-i
 invariant-loop-i g l =
     let k = g.S.Stream in
-    Going (insert_of k.kind) l.lengths l.values (k.view l.initial.s) (k.view l.s) l.initial.numbers l.numbers l.i l.at
+    Going (insert_of k.kind) l.lengths l.values (k.view l.initial.s) (k.view l.s) l.initial.numbers l.numbers l.i l.rest

@@ -1,8 +1,8 @@
 -- `whole_run` meets its contract. Assumes nothing.
-use Rattle.std.specs.Prelude.{Ok, Err}
+use Rattle.std.specs.Prelude.{Err}
 use Rattle.std.proofs.Common.{sym, ◌∙◌}
 use Rattle.model.specs.Stream.{insert_of, cluster_of}
-use Rattle.session.specs.Laws.Cases.{answered}
+use Rattle.session.specs.Laws.Cases.{answered, ran}
 use Rattle.session.proofs.whole.whole_run.Goals as goal
 
 pub returns-in-Err : goal.returns-in-Err
@@ -17,6 +17,5 @@ returns g c =
     let a = c.args in
     let k = g.S.Stream.kind in
     let r = c.inserts-run.ensures in
-    rw (c.cluster.ensures.stream_value, r.result_value, r.numbers_after)
-    (answered (insert_of k) (cluster_of k) a.lengths.now a.values.now a.numbers.now c.open-opening.ensures
-    (Ok tt) (sym c.in_default.is ∙ c.asked.ensures))
+    ran (insert_of k) (cluster_of k) a.lengths.now a.values.now a.numbers.now c.open-opening.ensures _ _ _
+    (sym c.in_default.is ∙ c.asked.ensures) r.numbers_after r.result_value c.cluster.ensures.stream_value

@@ -7,4 +7,4 @@ use Rattle.text.specs.Laws.Pieces.{worded}
 use Rattle.text.proofs.text.Text.add_integer.Goals as goal
 
 pub returns : goal.returns
-returns c = worded (c.as_bytes.ensures.value ∙ c.format.ensures.text ∙ ap signed_decimal (to_z-of_z c.ranges.n) ∙ integer_is c.args.n c.ranges.n.sfits) c.add.ensures
+returns c = worded (c.as_bytes.ensures.value ∙ c.format.ensures.text ∙ ap signed_decimal (to_z-of_z c.ranges.value) ∙ integer_is c.args.value c.ranges.value.sfits) c.add.ensures
