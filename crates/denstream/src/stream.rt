@@ -38,7 +38,7 @@ impl DenStream {
     }
 
     // The outliers held.
-    pub(crate) fn outliers(&self) -> &[DenMicro]
+    pub fn outliers(&self) -> &[DenMicro]
         ensures { result.now ≡ take (outliers_held self.now.potential_count self.now.outlier_count) self.now.outliers }
     {
         &self.outliers[..den_placement::outliers_held(self.potential_count, self.outlier_count)]
