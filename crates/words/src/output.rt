@@ -8,7 +8,7 @@ use std::io::Result;
 
 const STDOUT: i32 = 1;
 
-// Room for a line.
+// The most bytes that wait.
 const ROOM: usize = 1024;
 
 // Standard output. A failed write is passed over.
