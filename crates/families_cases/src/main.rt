@@ -179,7 +179,7 @@ fn openings() {
     );
 }
 
-// The first count of the points 4, 8, 16, .. and the first of them again, cut at n bytes.
+// The first `count` of the points 4, 8, 16, .., then the first `again` of them, cut at n bytes.
 fn apart(heading: &str, count: u8, again: u8, n: usize) {
     let mut points = [0; APART];
     for (point, i) in points.iter_mut().zip((0..count).chain(0..again)) {

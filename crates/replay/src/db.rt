@@ -80,9 +80,8 @@ impl Replayed for DbStream {
     }
 
     fn write_held<W: fmt::Write>(&self, f: &mut fmt::Formatter<W>) -> fmt::Result {
-        let held = self.held();
         let micros = Micros {
-            held,
+            held: self.held(),
             dim: self.dim(),
         };
         let links = Links(self.held_links());
