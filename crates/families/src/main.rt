@@ -1,13 +1,13 @@
 // Reads an input from standard input and prints its families.
 #![tactic(auto)]
 
-const STDOUT: i32 = 1;
+use words::Output;
 
 fn main(rt: HostRuntime) {
     let mut room = [0u8; input::ROOM];
     let n = input::read(&mut rt.stdin(), &mut room).unwrap_or(0);
     let mut output = io::buffer();
     if let Ok(m) = families_text::families(&room[..n], &mut output) {
-        io::write_all(STDOUT, &output[..m]);
+        let _written = Output.write_all(&output[..m]);
     }
 }

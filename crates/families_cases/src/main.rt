@@ -2,12 +2,13 @@
 // the gate compares the text with the file stdout, which was written by hand from document 01.
 #![tactic(auto)]
 
-const STDOUT: i32 = 1;
+use words::Output;
 
-// A word more than an input may have.
+// A word more than an input may have, in bytes.
 const ROOM: usize = 65544;
 
-const WORDS: usize = 8193;
+// The most points that lie apart.
+const APART: usize = 66;
 
 // The bytes of the settings and three points of a word each.
 const THREE_POINTS: usize = 64;
@@ -52,102 +53,92 @@ const PLAIN: Settings = Settings {
     min_weight: ONE,
 };
 
-// What `families` prints for an input, under its heading.
-fn show(heading: &[u8], input: &[u8]) {
-    let mut output = io::buffer();
-    io::write_all(STDOUT, heading);
-    io::write_all(STDOUT, b":\n");
-    if let Ok(n) = families_text::families(input, &mut output) {
-        io::write_all(STDOUT, &output[..n]);
+impl Settings {
+    fn words(self) -> [u64; 5] {
+        [self.dim, self.r, self.lambda, self.alpha, self.min_weight]
     }
 }
 
-// The first n bytes of the room.
-fn case(heading: &[u8], room: &[u8; ROOM], n: usize) {
+// What `families` prints for an input, under its heading.
+fn show(heading: &str, input: &[u8]) {
+    let mut output = io::buffer();
+    let _headed = println!(Output; "{heading}:");
+    if let Ok(n) = families_text::families(input, &mut output) {
+        let _written = Output.write_all(&output[..n]);
+    }
+}
+
+// The input of settings and points of a word each, with zeros after them, cut at n bytes.
+fn case(heading: &str, settings: Settings, points: &[u64], n: usize) {
+    let mut room = [0u8; ROOM];
+    let head = settings.words();
+    let words = head.iter().chain(points);
+    for (place, word) in room.as_chunks_mut::<8>().0.iter_mut().zip(words) {
+        *place = word.to_le_bytes();
+    }
     if let Some(input) = room.get(..n) {
         show(heading, input);
     }
 }
 
-// A word at its place among the words.
-fn set_word(room: &mut [u8; ROOM], place: usize, word: u64) {
-    if place < WORDS {
-        room[place * 8..place * 8 + 8].copy_from_slice(&word.to_le_bytes());
-    }
-}
-
-fn set_head(room: &mut [u8; ROOM], settings: Settings) {
-    set_word(room, 0, settings.dim);
-    set_word(room, 1, settings.r);
-    set_word(room, 2, settings.lambda);
-    set_word(room, 3, settings.alpha);
-    set_word(room, 4, settings.min_weight);
-}
-
 // "Input 1, 1, 2^-10, 0.5, 1 and points 0, 1.5, 0.75", with an alpha, cut at n bytes.
-fn example(heading: &[u8], alpha: u64, n: usize) {
-    let mut room = [0u8; ROOM];
-    set_head(&mut room, Settings { alpha, ..PLAIN });
-    set_word(&mut room, 5, NOUGHT);
-    set_word(&mut room, 6, ONE_AND_A_HALF);
-    set_word(&mut room, 7, THREE_QUARTERS);
-    case(heading, &room, n);
+fn example(heading: &str, alpha: u64, n: usize) {
+    let points = [NOUGHT, ONE_AND_A_HALF, THREE_QUARTERS];
+    case(heading, Settings { alpha, ..PLAIN }, &points, n);
 }
 
 // Document 01's examples of `families`.
 fn examples() {
-    example(b"alpha 0.5", HALF, THREE_POINTS);
-    example(b"alpha 1", ONE, THREE_POINTS);
-    example(b"alpha 0.999", UNDER_ONE, THREE_POINTS);
-    example(b"two points", HALF, 56);
+    example("alpha 0.5", HALF, THREE_POINTS);
+    example("alpha 1", ONE, THREE_POINTS);
+    example("alpha 0.999", UNDER_ONE, THREE_POINTS);
+    example("two points", HALF, 56);
 }
 
 // Settings with zeros after them, cut at n bytes.
-fn opening(heading: &[u8], settings: Settings, n: usize) {
-    let mut room = [0u8; ROOM];
-    set_head(&mut room, settings);
-    case(heading, &room, n);
+fn opening(heading: &str, settings: Settings, n: usize) {
+    case(heading, settings, &[], n);
 }
 
 // Settings of a dim, cut at n bytes.
-fn dim(heading: &[u8], dim: u64, n: usize) {
+fn dim(heading: &str, dim: u64, n: usize) {
     opening(heading, Settings { dim, ..PLAIN }, n);
 }
 
 // The lengths around the settings'.
 fn shortest() {
-    dim(b"empty", 1, 0);
-    dim(b"39 bytes", 1, 39);
-    dim(b"40 bytes", 1, 40);
-    dim(b"41 bytes", 1, 41);
+    dim("empty", 1, 0);
+    dim("39 bytes", 1, 39);
+    dim("40 bytes", 1, 40);
+    dim("41 bytes", 1, 41);
 }
 
 // The longest input, the point 0 again and again, and a longer one.
 fn longest() {
-    dim(b"65,536 bytes", 1, 65536);
-    dim(b"65,544 bytes", 1, 65544);
+    dim("65,536 bytes", 1, 65536);
+    dim("65,544 bytes", 1, 65544);
 }
 
 // A dim out of range is refused by its own number, whatever follows the settings.
 fn out_of_range() {
-    dim(b"dim 0", 0, 40);
-    dim(b"dim 0 and a word", 0, 48);
-    dim(b"dim 16", 16, 40);
-    dim(b"dim 2^64 - 1", 0xffff_ffff_ffff_ffff, 48);
+    dim("dim 0", 0, 40);
+    dim("dim 0 and a word", 0, 48);
+    dim("dim 16", 16, 40);
+    dim("dim 2^64 - 1", 0xffff_ffff_ffff_ffff, 48);
 }
 
 // A dim in range wants whole points.
 fn in_range() {
-    dim(b"dim 15", 15, 40);
-    dim(b"dim 15 and a point", 15, 160);
-    dim(b"dim 15 and a broken point", 15, 152);
-    dim(b"dim 2 and a broken point", 2, 64);
+    dim("dim 15", 15, 40);
+    dim("dim 15 and a point", 15, 160);
+    dim("dim 15 and a broken point", 15, 152);
+    dim("dim 2 and a broken point", 2, 64);
 }
 
 // The other questions of the opening; the input's length is asked about before them.
 fn openings() {
     opening(
-        b"r -1",
+        "r -1",
         Settings {
             r: MINUS_ONE,
             ..PLAIN
@@ -155,7 +146,7 @@ fn openings() {
         40,
     );
     opening(
-        b"r -1 and 41 bytes",
+        "r -1 and 41 bytes",
         Settings {
             r: MINUS_ONE,
             ..PLAIN
@@ -163,7 +154,7 @@ fn openings() {
         41,
     );
     opening(
-        b"lambda 65",
+        "lambda 65",
         Settings {
             lambda: SIXTY_FIVE,
             ..PLAIN
@@ -171,7 +162,7 @@ fn openings() {
         40,
     );
     opening(
-        b"alpha 0",
+        "alpha 0",
         Settings {
             alpha: NOUGHT,
             ..PLAIN
@@ -179,7 +170,7 @@ fn openings() {
         40,
     );
     opening(
-        b"min_weight NaN",
+        "min_weight NaN",
         Settings {
             min_weight: NAN,
             ..PLAIN
@@ -188,31 +179,20 @@ fn openings() {
     );
 }
 
-// The points 4, 8, 16, .. : as many words from a place on.
-fn set_apart(room: &mut [u8; ROOM], start: u16, count: u8) {
-    for i in 0..count {
-        set_word(
-            room,
-            start as usize + i as usize,
-            (1025 + i as u64) * 0x10_0000_0000_0000,
-        );
+// The first `count` of the points 4, 8, 16, .., then the first `again` of them, cut at n bytes.
+fn apart(heading: &str, count: u8, again: u8, n: usize) {
+    let mut points = [0; APART];
+    for (point, i) in points.iter_mut().zip((0..count).chain(0..again)) {
+        *point = (1025 + u64::from(i)) * 0x10_0000_0000_0000;
     }
-}
-
-// The first count of these points, and the first of them again, cut at n bytes.
-fn apart(heading: &[u8], count: u8, again: u8, n: usize) {
-    let mut room = [0u8; ROOM];
-    set_head(&mut room, PLAIN);
-    set_apart(&mut room, 5, count);
-    set_apart(&mut room, 5 + count as u16, again);
-    case(heading, &room, n);
+    case(heading, PLAIN, &points, n);
 }
 
 // Families that no link joins; a 65th micro-cluster, and a point after it that would be absorbed.
 fn many() {
-    apart(b"11 points twice", 11, 11, 216);
-    apart(b"65 points", 65, 0, 560);
-    apart(b"65 points and the first again", 65, 1, 568);
+    apart("11 points twice", 11, 11, 216);
+    apart("65 points", 65, 0, 560);
+    apart("65 points and the first again", 65, 1, 568);
 }
 
 fn main() {

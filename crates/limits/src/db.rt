@@ -1,5 +1,5 @@
 // A DBSTREAM near the end of its clock, and its cleanup with the slowest fading.
-use crate::taker::{Taker, taken};
+use crate::taker::{Taker, insert, taken};
 use dbstream::DbStream;
 use model::{DbMicro, DbSettings, MicroId};
 use std::num::saturating_f64_to_u64;
@@ -24,9 +24,7 @@ impl fmt::Display for Micros<'_> {
 impl Taker for DbStream {
     // The answer's number, the clock and the micro-clusters.
     fn take(&mut self, rt: &impl Print, x: f64) -> io::Result<()> {
-        let inserted = (*self).try_insert(&[x]);
-        *self = inserted.stream;
-        let number = model::number_of(inserted.answer);
+        let number = insert(self, x);
         let t = saturating_f64_to_u64(self.t);
         let micros = Micros(self.held());
         println!(rt; "db {number} {t}{micros}")

@@ -1,7 +1,7 @@
 // A DenStream near the end of its clock, and its pruning with the slowest fading.
-use crate::taker::{Taker, taken};
+use crate::taker::{Taker, insert, taken};
 use denstream::DenStream;
-use model::{DenMicro, DenSettings, MICROS};
+use model::{DenMicro, DenSettings};
 use std::num::saturating_f64_to_u64;
 use std::{fmt, io};
 use words::Bits;
@@ -25,14 +25,10 @@ impl fmt::Display for Pool<'_> {
 impl Taker for DenStream {
     // The answer's number, the clock and both pools.
     fn take(&mut self, rt: &impl Print, x: f64) -> io::Result<()> {
-        let inserted = (*self).try_insert(&[x]);
-        *self = inserted.stream;
-        let number = model::number_of(inserted.answer);
+        let number = insert(self, x);
         let t = saturating_f64_to_u64(self.t);
-        let np = self.potential_count.min(MICROS);
-        let no = self.outlier_count.min(MICROS);
-        let potential = Pool(&self.potential[..np]);
-        let outliers = Pool(&self.outliers[..no]);
+        let potential = Pool(self.potential());
+        let outliers = Pool(self.outliers());
         println!(rt; "den {number} {t} {potential} {outliers}")
     }
 }

@@ -1,4 +1,5 @@
 // What is tried: a stream or a window that takes one value after another.
+use model::Stream;
 use std::io;
 
 pub trait Taker: Copy {
@@ -13,4 +14,11 @@ pub fn taken<T: Taker>(rt: &impl Print, from: T, values: &[f64]) -> io::Result<T
         taker.take(rt, *x)?;
     }
     Ok(taker)
+}
+
+// Inserts a point of one coordinate: the answer's number.
+pub fn insert<S: Stream + Copy>(stream: &mut S, x: f64) -> u64 {
+    let inserted = (*stream).try_insert(&[x]);
+    *stream = inserted.stream;
+    model::number_of(inserted.answer)
 }

@@ -7,7 +7,7 @@ use std::{fmt, io};
 // The buckets of the fullest window: 6 of each class up to 36 and 2 of class 37.
 const MOST: usize = 224;
 
-// An update's answer, as it is printed.
+// An update's answer, as it is printed. In `replay` too: the crate of the window, on which both stand, has no texts.
 #[derive(Clone, Copy)]
 struct Answer(Result<Verdict, Full>);
 
@@ -39,14 +39,15 @@ fn fullest(old: f64, taken: u64) -> Adwin {
     let mut size = 137438953472.0;
     let mut class: u8 = 37;
     let mut mean = old;
-    for i in 0..MOST {
+    let places = window.buckets.iter_mut().zip(&mut window.classes);
+    for (i, (bucket, bucket_class)) in places.take(MOST).enumerate() {
         let total = size * mean;
-        window.buckets[i] = Bucket {
+        *bucket = Bucket {
             size,
             total,
             variance: 0.0,
         };
-        window.classes[i] = class;
+        *bucket_class = class;
         window.width += size;
         window.total += total;
         if i % 6 == 1 {

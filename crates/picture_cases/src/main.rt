@@ -3,8 +3,7 @@
 
 use std::io::{Error, ErrorKind, Read, Result};
 use text::Text;
-
-const STDOUT: i32 = 1;
+use words::Output;
 
 // A reader whose every read fails.
 #[derive(Drop)]
@@ -16,13 +15,12 @@ impl Read for Broken {
     }
 }
 
-// What `picture` prints for an input, under its heading.
-fn show(heading: &[u8], input: &[u8]) {
+// What `picture` prints for an input, under its heading. As in `families_cases`, but for the function and its room, which are most of it.
+fn show(heading: &str, input: &[u8]) {
     let mut output = [0u8; text::ROOM];
-    io::write_all(STDOUT, heading);
-    io::write_all(STDOUT, b":\n");
+    let _headed = println!(Output; "{heading}:");
     if let Ok(n) = picture_text::picture(input, &mut output) {
-        io::write_all(STDOUT, &output[..n]);
+        let _written = Output.write_all(&output[..n]);
     }
 }
 
@@ -30,7 +28,7 @@ fn show(heading: &[u8], input: &[u8]) {
 fn failing() {
     let mut room = [1u8; input::ROOM];
     let n = input::read(&mut Broken, &mut room).unwrap_or(0);
-    show(b"a read that fails", &room[..n]);
+    show("a read that fails", &room[..n]);
 }
 
 // What is no number has one form.
@@ -44,7 +42,7 @@ fn add_double(input: &mut Text, x: f64) {
 }
 
 // The input of settings, with lambda 2^-10 and alpha 0.5, and of readings: rate, amplitude and beat error.
-fn session(heading: &[u8], dim: u64, r: f64, min_weight: f64, readings: &[[f64; 3]]) {
+fn session(heading: &str, dim: u64, r: f64, min_weight: f64, readings: &[[f64; 3]]) {
     let mut input = Text::new();
     input.add(&dim.to_le_bytes());
     add_double(&mut input, r);
@@ -63,14 +61,14 @@ fn session(heading: &[u8], dim: u64, r: f64, min_weight: f64, readings: &[[f64; 
 }
 
 fn main() {
-    show(b"no input", b"");
+    show("no input", b"");
     failing();
-    session(b"r 0", 3, 0.0, 1.0, &[]);
-    session(b"dim 1", 1, 1.0, 1.0, &[]);
-    session(b"no reading", 3, 1.0, 1.0, &[]);
+    session("r 0", 3, 0.0, 1.0, &[]);
+    session("dim 1", 1, 1.0, 1.0, &[]);
+    session("no reading", 3, 1.0, 1.0, &[]);
     // The rate of the second is 2^1000.
     session(
-        b"no numbers and large ones",
+        "no numbers and large ones",
         3,
         1.0,
         0.5,
@@ -83,7 +81,7 @@ fn main() {
     );
     // In the corners, twice each, and outside them.
     session(
-        b"edges",
+        "edges",
         3,
         0.5,
         1.5,

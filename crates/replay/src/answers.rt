@@ -1,5 +1,5 @@
 // The lines of the answers that both streams give.
-use crate::figures::{Counted, OrDash};
+use crate::figures::{Labels, OrDash};
 use drift::DriftReport;
 use model::{InsertError, NotLive, OpenError, ShapeError, TooShort};
 use std::io;
@@ -40,13 +40,7 @@ pub fn say_insertion(rt: &impl Print, answer: Result<(), InsertError>) -> io::Re
 // Operation 5: the labels that were written.
 pub fn say_labels(rt: &impl Print, answer: Result<(), TooShort>, labels: &[i64]) -> io::Result<()> {
     match answer {
-        Ok(()) => println!(rt;
-            "labels{}",
-            Counted {
-                held: labels,
-                dim: 0
-            }
-        ),
+        Ok(()) => println!(rt; "labels{}", Labels(labels)),
         Err(error) => say_refused(rt, error),
     }
 }

@@ -1,5 +1,5 @@
 // A DBSTREAM as the script calls it.
-use crate::figures::{Counted, Feature, Figure, whole};
+use crate::figures::{Feature, whole};
 use crate::stream::Replayed;
 use dbstream::DbStream;
 use drift::DriftMonitor;
@@ -7,24 +7,41 @@ use model::{DbMicro, Link, MicroId, NotLive, ShapeError, TooShort};
 use std::fmt;
 use words::Bits;
 
-impl Figure for DbMicro {
-    fn write_figure<W: fmt::Write>(&self, dim: usize, f: &mut fmt::Formatter<W>) -> fmt::Result {
-        let body = &self.body;
-        write!(
-            f,
-            " {} {}{}",
-            self.id.0,
-            whole(body.last),
-            Feature { cf: &body.cf, dim }
-        )
+// How many micro-clusters there are, then each, with as many coordinates as the stream has.
+#[derive(Clone, Copy)]
+struct Micros<'a> {
+    held: &'a [DbMicro],
+    dim: usize,
+}
+
+impl fmt::Display for Micros<'_> {
+    fn fmt<W: fmt::Write>(&self, f: &mut fmt::Formatter<W>) -> fmt::Result {
+        let dim = self.dim;
+        write!(f, " {}", self.held.len())?;
+        for m in self.held {
+            let id = m.id.0;
+            let last = whole(m.body.last);
+            let cf = &m.body.cf;
+            write!(f, " {id} {last}{}", Feature { cf, dim })?;
+        }
+        Ok(())
     }
 }
 
-impl Figure for Link {
-    fn write_figure<W: fmt::Write>(&self, _dim: usize, f: &mut fmt::Formatter<W>) -> fmt::Result {
-        let lo = self.lo.0;
-        let hi = self.hi.0;
-        write!(f, " {lo} {hi} {} {}", Bits(self.value), whole(self.last))
+// How many links there are, then each.
+#[derive(Clone, Copy)]
+struct Links<'a>(&'a [Link]);
+
+impl fmt::Display for Links<'_> {
+    fn fmt<W: fmt::Write>(&self, f: &mut fmt::Formatter<W>) -> fmt::Result {
+        write!(f, " {}", self.0.len())?;
+        for link in self.0 {
+            let lo = link.lo.0;
+            let hi = link.hi.0;
+            let value = Bits(link.value);
+            write!(f, " {lo} {hi} {value} {}", whole(link.last))?;
+        }
+        Ok(())
     }
 }
 
@@ -63,15 +80,11 @@ impl Replayed for DbStream {
     }
 
     fn write_held<W: fmt::Write>(&self, f: &mut fmt::Formatter<W>) -> fmt::Result {
-        let dim = self.dim();
-        let micros = Counted {
+        let micros = Micros {
             held: self.held(),
-            dim,
+            dim: self.dim(),
         };
-        let links = Counted {
-            held: self.held_links(),
-            dim,
-        };
+        let links = Links(self.held_links());
         write!(f, "db {} {}{micros}{links}", whole(self.t), self.next_id.0)
     }
 }

@@ -1,21 +1,29 @@
 // A DenStream as the script calls it.
-use crate::figures::{Counted, Feature, Figure, whole};
+use crate::figures::{Feature, whole};
 use crate::stream::Replayed;
 use denstream::DenStream;
 use drift::DriftMonitor;
-use model::{DenMicro, MICROS, MicroId, NotLive, ShapeError, TooShort};
+use model::{DenMicro, MicroId, NotLive, ShapeError, TooShort};
 use std::fmt;
 
-impl Figure for DenMicro {
-    fn write_figure<W: fmt::Write>(&self, dim: usize, f: &mut fmt::Formatter<W>) -> fmt::Result {
-        let body = &self.body;
-        write!(
-            f,
-            " {} {}{}",
-            whole(body.last),
-            whole(self.t0),
-            Feature { cf: &body.cf, dim }
-        )
+// How many micro-clusters a pool has, then each, with as many coordinates as the stream has.
+#[derive(Clone, Copy)]
+struct Pool<'a> {
+    held: &'a [DenMicro],
+    dim: usize,
+}
+
+impl fmt::Display for Pool<'_> {
+    fn fmt<W: fmt::Write>(&self, f: &mut fmt::Formatter<W>) -> fmt::Result {
+        let dim = self.dim;
+        write!(f, " {}", self.held.len())?;
+        for m in self.held {
+            let last = whole(m.body.last);
+            let t0 = whole(m.t0);
+            let cf = &m.body.cf;
+            write!(f, " {last} {t0}{}", Feature { cf, dim })?;
+        }
+        Ok(())
     }
 }
 
@@ -55,14 +63,12 @@ impl Replayed for DenStream {
 
     fn write_held<W: fmt::Write>(&self, f: &mut fmt::Formatter<W>) -> fmt::Result {
         let dim = self.dim();
-        let np = self.potential_count.min(MICROS);
-        let no = self.outlier_count.min(MICROS);
-        let potential = Counted {
-            held: &self.potential[..np],
+        let potential = Pool {
+            held: self.potential(),
             dim,
         };
-        let outliers = Counted {
-            held: &self.outliers[..no],
+        let outliers = Pool {
+            held: self.outliers(),
             dim,
         };
         write!(f, "den {}{potential}{outliers}", whole(self.t))

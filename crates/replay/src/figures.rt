@@ -35,31 +35,15 @@ impl fmt::Display for Doubles<'_> {
     }
 }
 
-// An element of a list that operation 13 prints, of a stream of this many coordinates.
-pub trait Figure {
-    fn write_figure<W: fmt::Write>(&self, dim: usize, f: &mut fmt::Formatter<W>) -> fmt::Result;
-}
-
-// A label.
-impl Figure for i64 {
-    fn write_figure<W: fmt::Write>(&self, _dim: usize, f: &mut fmt::Formatter<W>) -> fmt::Result {
-        let label = *self;
-        write!(f, " {label}")
-    }
-}
-
-// How many there are, then each.
+// How many labels there are, then each.
 #[derive(Clone, Copy)]
-pub struct Counted<'a, T> {
-    pub held: &'a [T],
-    pub dim: usize,
-}
+pub struct Labels<'a>(pub &'a [i64]);
 
-impl<T: Figure> fmt::Display for Counted<'_, T> {
+impl fmt::Display for Labels<'_> {
     fn fmt<W: fmt::Write>(&self, f: &mut fmt::Formatter<W>) -> fmt::Result {
-        write!(f, " {}", self.held.len())?;
-        for x in self.held {
-            x.write_figure(self.dim, f)?;
+        write!(f, " {}", self.0.len())?;
+        for label in self.0 {
+            write!(f, " {label}")?;
         }
         Ok(())
     }

@@ -26,7 +26,6 @@ use words::Output;
 // The current stream: the one that the last accepted opening made.
 #[derive(Clone, Copy)]
 enum Current {
-    Nobody,
     Db(DbStream),
     Den(DenStream),
 }
@@ -34,12 +33,12 @@ enum Current {
 // An opening; a refused one leaves the current stream as it was.
 fn open(
     rt: &impl Print,
-    current: &mut Current,
+    current: &mut Option<Current>,
     answer: Result<(), OpenError>,
     opened: Current,
 ) -> io::Result<()> {
     if answer.is_ok() {
-        *current = opened;
+        *current = Some(opened);
     }
     answers::say_opening(rt, answer)
 }
@@ -47,7 +46,7 @@ fn open(
 // An operation on the current stream or the current window, or one that opens it.
 fn act(
     rt: &impl Print,
-    current: &mut Current,
+    current: &mut Option<Current>,
     window: &mut Option<Adwin>,
     operation: Operation,
 ) -> io::Result<()> {
@@ -65,9 +64,9 @@ fn act(
             println!(rt; "ok")
         }
         Operation::Stream(call) => match current {
-            Current::Nobody => println!(rt; "none"),
-            Current::Db(stream) => stream::act(rt, stream, call),
-            Current::Den(stream) => stream::act(rt, stream, call),
+            None => println!(rt; "none"),
+            Some(Current::Db(stream)) => stream::act(rt, stream, call),
+            Some(Current::Den(stream)) => stream::act(rt, stream, call),
         },
         Operation::Window(call) => match window {
             None => println!(rt; "none"),
@@ -78,7 +77,7 @@ fn act(
 
 // The operations one after another, to the end of the input or to a record that is not well formed.
 fn main() {
-    let mut current = Current::Nobody;
+    let mut current = None;
     let mut window = None;
     // More records than any input has.
     for _ in 0..u64::MAX {

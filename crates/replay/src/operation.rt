@@ -1,38 +1,25 @@
 // What a record asks for, with its operands.
 use crate::input::Malformed;
+use arrayvec::ArrayVec;
 use model::{DbSettings, DenSettings, MicroId};
 use words::double_of;
 
 // The most operands of a record.
 pub const OPERANDS: usize = 64;
 
-// A point's coordinates, as many as the record had, in room for the most: there is no heap.
-#[derive(Clone, Copy)]
-pub struct Point {
-    xs: [f64; OPERANDS],
-    count: usize,
-}
+// A point's coordinates, as many as the record had.
+pub type Point = ArrayVec<f64, OPERANDS>;
 
-impl Point {
-    fn new(operands: &[u64]) -> Self {
-        let mut xs = [0.0; OPERANDS];
-        for (x, word) in xs.iter_mut().zip(operands) {
-            *x = double_of(*word);
-        }
-        Self {
-            xs,
-            count: operands.len(),
-        }
+fn point(operands: &[u64]) -> Point {
+    let mut xs = Point::new();
+    for word in operands {
+        let _room = xs.try_push(double_of(*word));
     }
-
-    pub fn coordinates(&self) -> &[f64] {
-        let n = self.count.min(OPERANDS);
-        &self.xs[..n]
-    }
+    xs
 }
 
 // On the current stream.
-#[derive(Clone, Copy)]
+#[derive(Drop)]
 pub enum StreamCall {
     Insert(Point),
     Cluster,
@@ -58,7 +45,7 @@ pub enum WindowCall {
     Show,
 }
 
-#[derive(Clone, Copy)]
+#[derive(Drop)]
 pub enum Operation {
     OpenDb(DbSettings),
     OpenDen(DenSettings),
@@ -85,12 +72,12 @@ impl Operation {
                 beta: double_of(*beta),
                 mu: double_of(*mu),
             }),
-            (3, point) => Self::Stream(StreamCall::Insert(Point::new(point))),
+            (3, operands) => Self::Stream(StreamCall::Insert(point(operands))),
             (4, []) => Self::Stream(StreamCall::Cluster),
             (5, [capacity]) => Self::Stream(StreamCall::Labels {
                 capacity: *capacity as usize,
             }),
-            (6, point) => Self::Stream(StreamCall::Predict(Point::new(point))),
+            (6, operands) => Self::Stream(StreamCall::Predict(point(operands))),
             (7, [centres, weights, radii]) => Self::Stream(StreamCall::Statistics {
                 centres: *centres as usize,
                 weights: *weights as usize,

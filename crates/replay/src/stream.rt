@@ -1,7 +1,7 @@
 // The operations on the current stream, of either kind.
 use crate::answers;
 use crate::drift_figures::Drift;
-use crate::figures::{Counted, Doubles};
+use crate::figures::{Doubles, Labels};
 use crate::operation::StreamCall;
 use drift::DriftMonitor;
 use feature::MAX_DIM;
@@ -79,17 +79,17 @@ fn connectivity<S: Replayed>(
     a: MicroId,
     b: MicroId,
 ) -> io::Result<()> {
-    let Some(answer) = stream.connectivity(a, b) else {
-        return println!(rt; "none");
-    };
-    answers::say_connectivity(rt, answer)
+    match stream.connectivity(a, b) {
+        Some(answer) => answers::say_connectivity(rt, answer),
+        None => println!(rt; "none"),
+    }
 }
 
 // A call on a stream.
 pub fn act<S: Replayed>(rt: &impl Print, stream: &mut S, call: StreamCall) -> io::Result<()> {
     match call {
         StreamCall::Insert(point) => {
-            let inserted = (*stream).try_insert(point.coordinates());
+            let inserted = (*stream).try_insert(point.as_slice());
             *stream = inserted.stream;
             answers::say_insertion(rt, inserted.answer)
         }
@@ -99,10 +99,7 @@ pub fn act<S: Replayed>(rt: &impl Print, stream: &mut S, call: StreamCall) -> io
             println!(rt; "ok {} {}", clustered.finds, clustered.steps)
         }
         StreamCall::Labels { capacity } => labels(rt, stream, capacity),
-        StreamCall::Predict(point) => answers::say_prediction(
-            rt,
-            stream.predict(point.coordinates()),
-        ),
+        StreamCall::Predict(point) => answers::say_prediction(rt, stream.predict(point.as_slice())),
         StreamCall::Statistics {
             centres,
             weights,
@@ -130,14 +127,8 @@ impl<S: Replayed> fmt::Display for Figures<'_, S> {
     fn fmt<W: fmt::Write>(&self, f: &mut fmt::Formatter<W>) -> fmt::Result {
         let stream = self.0;
         stream.write_held(f)?;
-        write!(
-            f,
-            "{} {}",
-            Counted {
-                held: stream.labels_told(),
-                dim: 0
-            },
-            Drift(stream.monitor())
-        )
+        let labels = Labels(stream.labels_told());
+        let drift = Drift(stream.monitor());
+        write!(f, "{labels} {drift}")
     }
 }

@@ -2,12 +2,11 @@
 #![tactic(auto)]
 
 use text::ROOM;
-
-const STDOUT: i32 = 1;
+use words::Output;
 
 fn main() {
     let mut output = [0u8; ROOM];
     if let Ok(n) = sample_session::session(&mut output) {
-        io::write_all(STDOUT, &output[..n]);
+        let _written = Output.write_all(&output[..n]);
     }
 }

@@ -10,15 +10,21 @@ pub enum Function {
     Sqrt,
 }
 
-// Any other number is that of sqrt, the last.
-impl From<u64> for Function {
-    fn from(number: u64) -> Function {
+// A number that is no function's.
+#[derive(Clone, Copy)]
+pub struct Unknown;
+
+impl TryFrom<u64> for Function {
+    type Error = Unknown;
+
+    fn try_from(number: u64) -> Result<Self, Unknown> {
         match number {
-            1 => Self::Exp2,
-            2 => Self::Ln,
-            3 => Self::Log2,
-            4 => Self::Ceil,
-            _ => Self::Sqrt,
+            1 => Ok(Self::Exp2),
+            2 => Ok(Self::Ln),
+            3 => Ok(Self::Log2),
+            4 => Ok(Self::Ceil),
+            5 => Ok(Self::Sqrt),
+            _ => Err(Unknown),
         }
     }
 }

@@ -13,16 +13,14 @@ const STDIN: i32 = 0;
 // The most records that are read.
 const RECORDS: usize = 65536;
 
-// Two words, a function's number and its argument's bits; none where the input ends.
+// Two words, a function's number and its argument's bits; none where the input ends. Any other number is taken for that of sqrt.
 fn record() -> Option<(Function, f64)> {
     let mut pair = [0u8; 16];
     if io::read_full(STDIN, &mut pair) < 16 {
         return None;
     }
-    Some((
-        Function::from(word_at(&pair, 0)),
-        double_of(word_at(&pair, 8)),
-    ))
+    let function = Function::try_from(word_at(&pair, 0)).unwrap_or(Function::Sqrt);
+    Some((function, double_of(word_at(&pair, 8))))
 }
 
 fn main() {

@@ -1,65 +1,60 @@
 // What the programs print through: C's `write` alone. std's runtime also asks why a write failed, which no program here tells.
+ghost use Rattle.std.specs.Prelude.{◌≡◌, Ok};
+
+use arrayvec::ArrayString;
 use std::fmt;
 use std::fmt::{Display, Formatter};
 use std::io::Result;
 
 const STDOUT: i32 = 1;
 
-// Bytes that wait, so that a line is one write.
+// The most bytes that wait.
 const ROOM: usize = 1024;
 
 // Standard output. A failed write is passed over.
 #[derive(Clone, Copy)]
 pub struct Output;
 
-// The first `len` of the bytes wait to be written.
+// Text that waits, so that a line is one write.
 #[derive(Drop)]
-struct Waiting {
-    bytes: [u8; ROOM],
-    len: usize,
-}
+struct Waiting(ArrayString<ROOM>);
 
 impl Waiting {
     fn new() -> Self {
-        Self {
-            bytes: [0; ROOM],
-            len: 0,
-        }
+        Self(ArrayString::new())
     }
 
     fn flush(&mut self) {
-        let n = self.len.min(ROOM);
-        io::write_all(STDOUT, &self.bytes[..n]);
-        self.len = 0;
+        io::write_all(STDOUT, self.0.as_str().as_bytes());
+        self.0.clear();
     }
 }
 
 impl fmt::Write for Waiting {
-    // A piece that finds no room is written behind those that wait.
+    // A piece that finds no room is written behind what waits.
     fn write_str(&mut self, piece: &str) -> fmt::Result {
-        let bytes = piece.as_bytes();
-        let at = self.len.min(ROOM);
-        if ROOM - at < bytes.len() {
+        if self.0.try_push_str(piece).is_err() {
             self.flush();
-            io::write_all(STDOUT, bytes);
-            return Ok(());
+            io::write_all(STDOUT, piece.as_bytes());
         }
-        let end = at + bytes.len();
-        self.bytes[at..end].copy_from_slice(bytes);
-        self.len = end;
         Ok(())
     }
 }
 
+// None of these fails: what they write no contract can say.
 impl Print for Output {
-    fn print<D: Display + Drop>(&self, value: D) -> Result<()> {
+    fn print<D: Display + Drop>(&self, value: D) -> Result<()>
+        ensures { result ≡ Ok tt }
+    {
         let mut f = Formatter::new(Waiting::new());
         let _written = f.write(&value);
         f.into_inner().flush();
         Ok(())
     }
 
-    fn println<D: Display + Drop>(&self, value: D) -> Result<()> {
+    fn println<D: Display + Drop>(&self, value: D) -> Result<()>
+        ensures { result ≡ Ok tt }
+    {
         let mut f = Formatter::new(Waiting::new());
         let _written = f.write(&value);
         let _ended = f.write("\n");
@@ -67,7 +62,9 @@ impl Print for Output {
         Ok(())
     }
 
-    fn write_all(&self, bytes: &[u8]) -> Result<()> {
+    fn write_all(&self, bytes: &[u8]) -> Result<()>
+        ensures { result ≡ Ok tt }
+    {
         io::write_all(STDOUT, bytes);
         Ok(())
     }
