@@ -9,7 +9,8 @@ use db_link::key_of;
 use model::{LINKS, Link, MicroId};
 
 impl Walk {
-    // Each pair of a and one of the others.
+    // Each pair of a and one of the others. Array, count, lambda and t go together from call to call, as in `gain`: a struct of
+    // them would be made from the stream's fields and taken apart again for each point, and document 01 names the list with its count.
     fn gain_row(
         &mut self,
         links: &mut [Link; LINKS],
@@ -33,7 +34,7 @@ impl Walk {
 }
 
 // The first `count` links gain by each pair of the neighbours ids; how many there are then. The whole array and a count, since new
-// links come behind those that are there.
+// links come behind those that are there: the stream's own two fields, "a link list of at most 2,016".
 pub fn gain_pairs(
     links: &mut [Link; LINKS],
     mut count: usize,

@@ -7,7 +7,6 @@ ghost use Rattle.db_gains.specs.Walk.{Ready};
 ghost use Rattle.db_gains.specs.Laws.Passed.{Passed};
 
 use crate::factor::Factor;
-use db_link::{is_before, same_ends};
 use model::{LINKS, Link, MicroId};
 
 // The links before `at` are known to stand before `key`; `factor` is kept from the last gain for the next.
@@ -22,7 +21,7 @@ pub(crate) struct Walk {
 fn passed(links: &[Link], key: &Link) -> usize
     ensures { result ≡ prefix_len (λ l. before l key.now) links.now }
 {
-    links.iter().take_while(|l| is_before(l, key)).count()
+    links.iter().take_while(|l| l.ends() < key.ends()).count()
 }
 
 // l faded to t, with 1 more.
@@ -65,15 +64,15 @@ impl Walk {
         requires passed { Passed self.old.key (take self.old.at links.now) }
         ensures { self.new ≡ record { at = prefix_len (λ l. before l key) links.now; key = key; factor = self.old.factor } }
     {
-        if is_before(&key, &self.key) {
+        if key.ends() < self.key.ends() {
             self.at = 0;
         }
         self.at += passed(&links[self.at..], &key);
         self.key = key;
     }
 
-    // The key's link gains, or a new one goes to its place, where there is room; how many there are now. The whole array and
-    // the count, since a new one needs a place behind those that are there.
+    // The key's link gains, or a new one goes to its place, where there is room; how many there are now. The stream's array and
+    // count as they are, since a new one needs a place behind those that are there.
     pub(crate) fn gain(
         &mut self,
         links: &mut [Link; LINKS],
@@ -90,7 +89,7 @@ impl Walk {
     {
         self.seek(&links[..count], key);
         let at = self.at;
-        if at < count && same_ends(&links[at], &key) {
+        if at < count && links[at].ends() == key.ends() {
             let link = links[at];
             let fade = self.factor.since(lambda, t, link.last);
             links[at] = gained(link, fade, t);

@@ -13,6 +13,7 @@ use lib.Ieee.{Float, le}
 use lib.ListN.{length, take, drop, get_or, set, drop_of_length-le, get_or-eq_default}
 use lib.Seq.{append_snoc, drop-cons, take-suc-set}
 use Rattle.std.specs.Prelude.{Option, Some, None, position}
+use Rattle.std.specs.Bool.{then_some}
 use Rattle.std.specs.List.{position_or_len}
 use Rattle.std.proofs.lemmas.List.Recursion.{is_position_or_len}
 use Rattle.model.specs.declared.micro.MicroId.{MicroId}
@@ -73,12 +74,17 @@ module _ (ids : List MicroId) (strong : List Bool) (lambda t dense : Float) wher
     abbrev lasts : Bool
     lasts = le dense (faded_link lambda t l)
 
-    pub ends_some : (i j : ℕ) → i ≡ place_among ids l.lo → j ≡ place_among ids l.hi → get_or strong i false ≡ true → get_or strong j false ≡ true → lasts ≡ true
-        → Some (i, j) ≡ ends_by ids strong lambda t dense l
-    ends_some i j ei ej a b d = rw (← ei, ← ej, a, b, d)
+    pub ends_are :
+        (i j : ℕ) → i ≡ place_among ids l.lo → j ≡ place_among ids l.hi → (b : Bool) → b ≡ (get_or strong i false && get_or strong j false && lasts) →
+        then_some {T = ℕ × ℕ} b (i, j) ≡ ends_by ids strong lambda t dense l
+    ends_are i j ei ej b e = rw (← ei, ← ej, e) (chosen (get_or strong i false && get_or strong j false && lasts))
+      where
+        chosen : (b : Bool) → then_some {T = ℕ × ℕ} b (i, j) ≡ cond b (Some (i, j)) None
+        chosen true = refl
+        chosen false = refl
 
     -- a link that does not join
-    pub ends_none : (lo ≡ false) ⊎ ((hi ≡ false) ⊎ (lasts ≡ false)) → ◌≡◌ {A = Option (ℕ × ℕ)} None (ends_by ids strong lambda t dense l)
+    ends_none : (lo ≡ false) ⊎ ((hi ≡ false) ⊎ (lasts ≡ false)) → ◌≡◌ {A = Option (ℕ × ℕ)} None (ends_by ids strong lambda t dense l)
     ends_none h = sym (ap (λ (b : Bool). cond b (Some (place_among ids l.lo, place_among ids l.hi)) None) (off lo hi lasts h))
       where
         off : (a b d : Bool) → (a ≡ false) ⊎ ((b ≡ false) ⊎ (d ≡ false)) → (a && b && d) ≡ false

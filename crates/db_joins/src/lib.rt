@@ -26,53 +26,49 @@ fn is_strong(strong: &[bool], i: usize) -> bool
     strong.get(i).is_some_and(|s| *s)
 }
 
-// The places of the ends, if the link joins them: both are strong, and it has faded to no less than dense.
-fn joined_ends(
-    l: &Link,
-    micros: &[DbMicro],
-    strong: &[bool],
+// What says which links join: the micro-clusters in list order, which of them are strong, the fade to t, and the least faded
+// value of a link that joins.
+#[derive(Clone, Copy)]
+struct Joining<'a> {
+    micros: &'a [DbMicro],
+    strong: &'a [bool],
     lambda: f64,
     t: f64,
     dense: f64,
-) -> Option<(usize, usize)>
-    requires { length strong.now ≤ length micros.now }
-    ensures { result ≡ ends_by (map id_of micros.now) strong.now lambda t dense l.now }
-{
-    let i = place_of(micros, l.lo)?;
-    let j = place_of(micros, l.hi)?;
-    if is_strong(strong, i)
-        && is_strong(strong, j)
-        && dense <= model::faded(l.value, lambda, t, l.last)
-    {
-        Some((i, j))
-    } else {
-        None
-    }
 }
 
-// The pairs in the order of the links; how many they are.
-fn joined(
-    links: &[Link],
-    micros: &[DbMicro],
-    strong: &[bool],
-    lambda: f64,
-    t: f64,
-    dense: f64,
-    pairs: &mut [(usize, usize)],
-) -> usize
-    requires told { length strong.now ≤ length micros.now }
-    requires room { length links.now ≤ length pairs.old }
-    ensures pairs_after { take result pairs.new ≡ joined_by (map id_of micros.now) strong.now lambda t dense links.now }
-    ensures places { result ≤ length links.now }
-{
-    let mut k: usize = 0;
-    for l in links {
-        if let Some(ends) = joined_ends(l, micros, strong, lambda, t, dense) {
-            pairs[k] = ends;
-            k += 1;
-        }
+impl Joining<'_> {
+    // The places of the ends, if the link joins them: both are strong, and it has faded to no less than dense.
+    fn ends(&self, l: &Link) -> Option<(usize, usize)>
+        requires { length self.now.strong.now ≤ length self.now.micros.now }
+        ensures { let all = self.now in result ≡ ends_by (map id_of all.micros.now) all.strong.now all.lambda all.t all.dense l.now }
+    {
+        let i = place_of(self.micros, l.lo)?;
+        let j = place_of(self.micros, l.hi)?;
+        let joins = is_strong(self.strong, i)
+            && is_strong(self.strong, j)
+            && self.dense <= model::faded(l.value, self.lambda, self.t, l.last);
+        joins.then_some((i, j))
     }
-    k
+
+    // The pairs in the order of the links; how many they are. A lent slice and a count: an ArrayVec proves too, but no crate under
+    // the C library stands on one of the kit beside std.
+    fn pairs(&self, links: &[Link], pairs: &mut [(usize, usize)]) -> usize
+        requires told { length self.now.strong.now ≤ length self.now.micros.now }
+        requires room { length links.now ≤ length pairs.old }
+        ensures pairs_after { let all = self.now in
+            take result pairs.new ≡ joined_by (map id_of all.micros.now) all.strong.now all.lambda all.t all.dense links.now }
+        ensures places { result ≤ length links.now }
+    {
+        let mut k: usize = 0;
+        for l in links {
+            if let Some(ends) = self.ends(l) {
+                pairs[k] = ends;
+                k += 1;
+            }
+        }
+        k
+    }
 }
 
 // The labels of the micro-clusters that `strong` speaks of: by first member where strong, −1 elsewhere. Roots are sought for the strong ones.
@@ -92,7 +88,14 @@ pub fn labels_of(
     let links = &links[..links.len().min(LINKS)];
     let strong = &strong[..strong.len().min(micros.len()).min(MICROS)];
     let mut pairs = [(0usize, 0usize); LINKS];
-    let k = joined(links, micros, strong, lambda, t, dense, &mut pairs);
+    let joining = Joining {
+        micros,
+        strong,
+        lambda,
+        t,
+        dense,
+    };
+    let k = joining.pairs(links, &mut pairs);
     let rooted = union_find::roots(&pairs[..k], strong);
     Labelled {
         labels: labels::labels(&rooted.roots, strong),

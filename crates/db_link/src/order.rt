@@ -5,14 +5,15 @@ ghost use Rattle.db_link.specs.Order.{key_of};
 
 use model::{Link, MicroId};
 
-// Whether l stands before k: the document's word for the derived order of the ends, which clauses cite.
+// Whether l stands before k. This and `same_ends` are public and promised: their clauses say that the derived order of the ends
+// is the definitions' `before`, and their equality the definitions' `same_ends`.
 pub fn is_before(l: &Link, k: &Link) -> bool
     ensures { result ≡ before l.now k.now }
 {
     l.ends() < k.ends()
 }
 
-// Whether l and k have the same ends, likewise.
+// Whether l and k have the same ends.
 pub fn same_ends(l: &Link, k: &Link) -> bool
     ensures { result ≡ same_ends l.now k.now }
 {
@@ -23,10 +24,9 @@ pub fn same_ends(l: &Link, k: &Link) -> bool
 pub fn key_of(a: MicroId, b: MicroId, t: f64) -> Link
     ensures { result ≡ key_of a b t }
 {
-    let (lo, hi) = if a < b { (a, b) } else { (b, a) };
     Link {
-        lo,
-        hi,
+        lo: a.min(b),
+        hi: a.max(b),
         value: 0.0,
         last: t,
     }

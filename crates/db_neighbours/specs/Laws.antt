@@ -1,3 +1,2 @@
 -- What follows from the definitions, for proofs.
-pub mod Absorbing
 pub mod Views

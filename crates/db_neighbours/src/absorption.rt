@@ -1,5 +1,5 @@
 // How a point joins the micro-clusters.
-ghost use Rattle.std.specs.Prelude.{◌≡◌, ◌≤◌, take};
+ghost use Rattle.std.specs.Prelude.{◌≡◌, ◌≤◌, length, take};
 ghost use Rattle.float.specs.Rounded.{◌⊗◌};
 ghost use Rattle.feature.specs.Feature.{max_dim};
 ghost use Rattle.model.specs.DbInsert.{absorbs};
@@ -9,6 +9,9 @@ ghost use Rattle.db_neighbours.specs.Placing.{placed_among, next_after};
 
 use crate::scan::Scan;
 use model::{Body, DbMicro, MICROS, MicroId};
+
+// `newborn` and `absorbed` stand in den_pool too: each is a record of its own stream's fields, and what they share is
+// `Body::birth` and `Body::absorbing`.
 
 // A micro-cluster that holds the point alone.
 fn newborn(x: &[f64], t: f64, id: MicroId) -> DbMicro
@@ -30,23 +33,14 @@ fn absorbed(m: DbMicro, x: &[f64], lambda: f64, t: f64) -> DbMicro
     }
 }
 
-// Those of the first `held` that are near absorb the point.
-fn absorb(
-    micros: &mut [DbMicro; MICROS],
-    held: usize,
-    distances: &[f64; MICROS],
-    x: &[f64],
-    r: f64,
-    lambda: f64,
-    t: f64,
-)
-    requires { held ≤ MICROS }
-    ensures { take held micros.new ≡ absorb_near (r ⊗ r) (absorbs lambda t x.now) (take held distances.now) (take held micros.old) }
+// Those that are near absorb the point; distances[i] is how far micros[i] is from it.
+fn absorb(micros: &mut [DbMicro], distances: &[f64], x: &[f64], r: f64, lambda: f64, t: f64)
+    requires { length distances.now ≤ length micros.old }
+    ensures { micros.new ≡ absorb_near (r ⊗ r) (absorbs lambda t x.now) distances.now micros.old }
 {
     let r2 = r * r;
-    // Over places: of what a zip of `iter_mut()` with the distances writes std says nothing.
-    for i in 0..held {
-        if distances[i] <= r2 {
+    for (i, d) in distances.iter().enumerate() {
+        if *d <= r2 {
             micros[i] = absorbed(micros[i], x, lambda, t);
         }
     }
@@ -71,7 +65,8 @@ pub fn with_point(
     let held = (*count).min(MICROS);
     *count = held;
     if scan.count != 0 {
-        absorb(micros, held, &scan.distances, x, r, lambda, t);
+        let distances = &scan.distances[..held];
+        absorb(&mut micros[..held], distances, x, r, lambda, t);
     } else if held < MICROS {
         micros[held] = newborn(x, t, *next_id);
         *count = held + 1;

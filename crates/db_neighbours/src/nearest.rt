@@ -14,8 +14,6 @@ fn least_with(best: f64, rest: &[f64]) -> f64
 pub(crate) fn least(distances: &[f64]) -> Option<f64>
     ensures { result ≡ least_of distances.now }
 {
-    match distances.split_first() {
-        Some((first, rest)) => Some(least_with(*first, rest)),
-        None => None,
-    }
+    let (first, rest) = distances.split_first()?;
+    Some(least_with(*first, rest))
 }

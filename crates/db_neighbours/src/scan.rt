@@ -12,7 +12,8 @@ ghost use Rattle.db_neighbours.specs.Scanned.{scan_told, scan_of};
 use crate::nearest::least;
 use model::{DbMicro, MICROS, MicroId};
 
-// The distances, the least of them, and the neighbours' creation numbers, of which the first count are there: there is no heap.
+// The distances, the least of them, and the neighbours' creation numbers, of which the first count are there: an array and a
+// count, since a scan is Copy, which an ArrayVec is not.
 #[derive(Clone, Copy)]
 pub struct Scan {
     pub distances: [f64; MICROS],
@@ -38,16 +39,16 @@ impl Scan {
 }
 
 // The creation numbers of those at most r2 away, and how many they are.
-fn near_ids(micros: &[DbMicro], distances: &[f64; MICROS], r2: f64) -> ([MicroId; MICROS], usize)
+fn near_ids(micros: &[DbMicro], distances: &[f64], r2: f64) -> ([MicroId; MICROS], usize)
     requires { length micros.now ≤ MICROS }
     ensures few { result.1 ≤ length micros.now }
-    ensures near { (d : DbMicro → Float) → take (length micros.now) distances.now ≡ map d micros.now
+    ensures near { (d : DbMicro → Float) → distances.now ≡ map d micros.now
         → take result.1 result.0 ≡ map id_of (retain (λ m. le (d m) r2) micros.now) }
 {
     let mut ids = [MicroId(0); MICROS];
     let mut count = 0;
-    for (i, m) in micros.iter().enumerate() {
-        if distances[i] <= r2 {
+    for (m, d) in micros.iter().zip(distances) {
+        if *d <= r2 {
             ids[count] = m.id;
             count += 1;
         }
@@ -61,8 +62,9 @@ pub fn scan_for(micros: &[DbMicro], x: &[f64], dim: usize, r: f64) -> Scan
 {
     let micros = &micros[..micros.len().min(MICROS)];
     let distances = lists::each(micros, 0.0, |m| m.body.distance(x, dim));
-    let (ids, count) = near_ids(micros, &distances, r * r);
-    let nearest = least(&distances[..micros.len()]);
+    let measured = &distances[..micros.len()];
+    let (ids, count) = near_ids(micros, measured, r * r);
+    let nearest = least(measured);
     Scan {
         distances,
         nearest,

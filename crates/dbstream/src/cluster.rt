@@ -31,7 +31,8 @@ impl DbStream {
         work
     }
 
-    // The labels of the micro-clusters, -1 for those that are not strong, and the finds that they took.
+    // The labels of the micro-clusters, -1 for those that are not strong, and the finds that they took. In denstream too, over its own
+    // private `relabel`. "Cluster returns the number of finds and the number of halving steps made": each by its name.
     pub fn cluster(mut self) -> Clustered<DbStream>
         ensures stream_value { view result.stream ≡ cluster_of (view self) }
         ensures finds { result.finds ≡ finds_of (view self) }

@@ -56,7 +56,7 @@ impl DbStream {
         Ok(())
     }
 
-    // The stream after the point; a refused stream is the one that came.
+    // The stream after the point; a refused stream is the one that came. In denstream too, over its own private `insert`.
     pub fn try_insert(mut self, x: &[f64]) -> Inserted<DbStream>
         ensures result_value { inserted_told view result ≡ insert_of (view self) x.now }
         ensures kept { insertion_number result.answer ≢ 0 → result.stream ≡ self }

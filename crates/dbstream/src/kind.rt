@@ -1,4 +1,5 @@
-// DBSTREAM as a stream of its kind: its own calls under the names of the trait.
+// DBSTREAM as a stream of its kind: its own calls under the names of the trait. denstream has the same lines over its own calls and
+// fields: they are what makes one trait of two streams.
 ghost use Rattle.model.specs.DbState.{Params, Holdings};
 ghost use Rattle.model.specs.Dbstream.{dbstream};
 ghost use Rattle.dbstream.specs.View as own;

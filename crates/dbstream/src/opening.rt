@@ -46,7 +46,8 @@ impl DbStream {
         }
     }
 
-    // The questions in order: the first no decides. Beside a refusal stands a stream whose settings are all 0.
+    // The questions in order: the first no decides. Beside a refusal stands a stream whose settings are all 0. In denstream too, with
+    // its own settings and its own `fresh`.
     pub fn new(settings: DbSettings) -> Opened<DbStream>
         ensures result_value { opened_told view result ≡ open_of settings }
         ensures said { opening_number result.answer ≡ db_opening_no settings }
@@ -58,18 +59,12 @@ impl DbStream {
             settings.alpha,
             settings.min_weight,
         );
-        if answer.is_ok() {
-            let stream = DbStream::fresh(settings);
-            return Opened { answer, stream };
-        }
-        let zeros = DbSettings {
-            dim: 0,
-            r: 0.0,
-            lambda: 0.0,
-            alpha: 0.0,
-            min_weight: 0.0,
+        let kept = if answer.is_ok() {
+            settings
+        } else {
+            DbSettings::default()
         };
-        let stream = DbStream::fresh(zeros);
+        let stream = DbStream::fresh(kept);
         Opened { answer, stream }
     }
 }

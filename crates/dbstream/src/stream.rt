@@ -7,8 +7,10 @@ use drift::{DriftMonitor, DriftReport};
 use feature::MAX_DIM;
 use model::{DbMicro, DbParams, LINKS, Link, MICROS, MicroId};
 
-// `new`, `dim`, `tick`, `cluster` and `drift` stand in denstream too: a line or two on fields of a stream's own, which a trait with
-// accessors would not shorten. Arrays with counts of what they hold, since there is no heap; links stand in the order of their ends' creation numbers.
+// Arrays with counts of what they hold, as document 01 names them: a stream is Copy and is taken and given by value, and an ArrayVec
+// is not Copy. Links stand in the order of their ends' creation numbers.
+// `dim` and `drift` stand in denstream too, and so does what the files here mark: each is over the fields of its own stream, and a
+// trait cannot name a field without a method for it. What both mean is one definition over `Kind`, in model, with one law.
 #[derive(Clone, Copy)]
 pub struct DbStream {
     pub params: DbParams,
@@ -24,7 +26,7 @@ pub struct DbStream {
 }
 
 impl DbStream {
-    // The coordinates of a point.
+    // The coordinates of a point. In denstream too.
     pub fn dim(&self) -> usize
         ensures { result ≡ (view self.now).params.settings.dim }
     {
@@ -53,7 +55,7 @@ impl DbStream {
         &self.links[..self.link_count.min(LINKS)]
     }
 
-    // The drift monitor's report.
+    // The drift monitor's report. In denstream too.
     pub fn drift(&self) -> DriftReport
         ensures { result ≡ report_of (view self.now).drift }
     {

@@ -1,4 +1,4 @@
-// The clock ticks.
+// The clock ticks. The same in denstream, on that stream's fields and with its own cleanup; the tick itself is `Clock`, in model.
 ghost use Rattle.std.specs.Prelude.{◌≡◌};
 ghost use Rattle.model.specs.Dbstream.{tick_of};
 ghost use Rattle.dbstream.specs.View.{view};

@@ -1,6 +1,6 @@
 // What an opening names.
 
-#[derive(Clone, Copy)]
+#[derive(Clone, Copy, Default)]
 pub struct DbSettings {
     pub dim: usize,
     pub r: f64,

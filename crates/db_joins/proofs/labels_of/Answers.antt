@@ -14,7 +14,7 @@ returns c =
     let few : length strong ≤ places = omega (arith, length-take c.min-3.result a.strong.now) in
     let known = cut_same c.min-3.result (min (length a.micros.now) micros_most) a.strong.now (omega arith) in
     let links = cut_same c.min.result links_most a.links.now (omega arith) in
-    let pairs = c.joined-k.ensures.pairs_after in
+    let pairs = c.pairs-k.ensures.pairs_after in
     let rooted = c.roots-rooted.ensures in
     record {
       labels_value = rw (← known, ← links, ← pairs) (labelled strong few _ _ _ rooted.roots_value c.labels.ensures);

@@ -1,5 +1,5 @@
 -- `least` meets its contract. Assumes nothing.
-use Rattle.std.proofs.Common.{◌≡◌, refl, sym, ap, ◌∙◌, List, [], ◌∷◌, length, arith, fold, Some, None, Float}
+use Rattle.std.proofs.Common.{rules, ◌≡◌, refl, sym, ap, ◌∙◌, List, [], ◌∷◌, length, arith, fold, Some, None, Float}
 use mathlib.Core.List.{foldl}
 use Rattle.float.specs.Order.{smaller}
 use Rattle.model.specs.DbInsert.{least_of}
@@ -14,9 +14,11 @@ unfolding least_of
 none [] e = refl
 none (d ∷ ds) e = absurd (omega (arith, e))
 
-pub returns-in-Some : goal.returns-in-Some
-unfolding least_of
-returns-in-Some c = ap Some (c.least_with.ensures ∙ fold_is smaller c.in-Some.first.now c.in-Some.rest.now) ∙ sym (ap least_of c.in-Some.ensures.cases.0)
+pub returns-in_err-first : goal.returns-in_err-first
+returns-in_err-first c =
+    let left : c.from_residual.result ≡ None = search rules in
+    left ∙ none c.args.distances.now c.in_err-first.ensures.cases
 
-pub returns-in-None : goal.returns-in-None
-returns-in-None c = none c.args.distances.now c.in-None.ensures.cases
+pub returns : goal.returns
+unfolding least_of
+returns c = ap Some (c.least_with.ensures ∙ fold_is smaller c.in_ok-first.first.now c.in_ok-first.rest.now) ∙ sym (ap least_of c.in_ok-first.ensures.cases.0)

@@ -1,64 +1,85 @@
 -- `near_ids` meets its contract. Assumes nothing.
-use Rattle.std.proofs.Common.{◌≡◌, ℕ, ◌+◌, ◌<◌, Bool, true, false, List, ◌∷◌, ◌++◌, map, length, take, drop, set, get_or, refl, sym, ap, ◌∙◌, add-one, drop-cons, append-nil, arith, length-set, take-suc-set}
-use Rattle.std.proofs.lemmas.List.{drop_all, get_or-map, get_or-take}
+use Rattle.std.proofs.Common.{◌≡◌, ℕ, ◌+◌, ◌<◌, Bool, true, false, List, [], ◌∷◌, ◌++◌, map, length, take, drop, set, get_or, sym, ap, ◌∙◌, add-one, append-nil, arith, length-set, take-suc-set}
+use mathlib.Core.Logic.{inl, inr}
 use lib.Seq.{append_snoc}
 use lib.Ieee.{Float, le, nan}
 use Rattle.lists.specs.Retain.{retain}
-use Rattle.lists.specs.Laws.Rest.{any_of}
+use Rattle.lists.specs.Laws.Maps.{map_length}
 use Rattle.model.specs.declared.micro.DbMicro.{DbMicro}
+use Rattle.model.specs.declared.micro.MicroId.{MicroId}
 use Rattle.model.specs.DbInsert.{id_of}
-use Rattle.db_neighbours.proofs.scan.near_ids.Goals.{then-distances-i, else-distances-i}
 use Rattle.db_neighbours.proofs.scan.near_ids.Goals as goal
 
--- ---- a filter into another array: `if p(xs[i]) { out[k] = f(xs[i]); k += 1; }` for i from 0
-module _ {A B : Type 0} (f : A → B) (p : A → Bool) (xs : List A) (i : ℕ) (z : A) (h : i < length xs) (k : ℕ) (out : List B) where
-  next : drop i xs ≡ get_or xs i z ∷ drop (i + 1) xs
-  next = drop-cons xs i z h ∙ ap (λ (m : ℕ). get_or xs i z ∷ drop m xs) (sym (add-one i))
+-- ---- one turn: the micro-clusters left are m and ms, their distances v and vs
+module _ (d : DbMicro → Float) (m : DbMicro) (ms l : List DbMicro) (v : Float) (vs ds : List Float) (em : l ≡ m ∷ ms) (ed : ds ≡ v ∷ vs) (e : ds ≡ map d l) where
+  both : v ∷ vs ≡ map d (m ∷ ms)
+  both = sym ed ∙ e ∙ ap (map d) em
 
-  takes :
-      (v : B) → k < length out → v ≡ f (get_or xs i z) → p (get_or xs i z) ≡ true →
-      take (k + 1) (set out k v) ++ map f (retain p (drop (i + 1) xs)) ≡ take k out ++ map f (retain p (drop i xs))
-  unfolding retain
-  takes v o e t = rw (next, t, ← e, add-one k, take-suc-set out k v, append_snoc (take k out) v)
+  others : vs ≡ map d ms
+  others = ap (λ (r : List Float). drop 1 r) both
 
-  skips : p (get_or xs i z) ≡ false → take k out ++ map f (retain p (drop (i + 1) xs)) ≡ take k out ++ map f (retain p (drop i xs))
-  unfolding retain
-  skips t = rw (next, t)
+  module _ (r2 : Float) (k : ℕ) (ids : List MicroId) where
+    near : (b : Bool) → le v r2 ≡ b → le (d m) r2 ≡ b
+    near b t = sym (ap (λ (r : List Float). le (get_or r 0 nan) r2) both) ∙ t
 
--- the distance at i is that of the micro-cluster there
-measured :
-    (d : DbMicro → Float) (ms : List DbMicro) (ds : List Float) (i : ℕ) (z : DbMicro) → i < length ms → take (length ms) ds ≡ map d ms →
-    get_or ds i nan ≡ d (get_or ms i z)
-measured d ms ds i z h e = sym (get_or-take (length ms) ds i nan h) ∙ ap (λ (l : List Float). get_or l i nan) e ∙ get_or-map d ms i z nan h
+    takes : k < length ids → le v r2 ≡ true →
+        take (k + 1) (set ids k m.id) ++ map id_of (retain (λ (m : DbMicro). le (d m) r2) ms) ≡ take k ids ++ map id_of (retain (λ (m : DbMicro). le (d m) r2) l)
+    unfolding retain
+    takes o t = rw (em, near true t, add-one k, take-suc-set ids k m.id, append_snoc (take k ids) m.id)
 
-pub loop-i-preserved : goal.loop-i-preserved
-loop-i-preserved c =
-    let at = c.loop-i in
-    let ms = c.args.micros.now in
-    let h = c.loop-i-test.true in
-    let q = at.invariant in
-    let ds = c.args.distances.now in
-    let z : DbMicro = any_of ms (omega (arith, h)) in
-    elim c.if-distances-i.branch [
-      | then-distances-i w ↦ rw (w.ids-is, w.count-is) (record {
-        few = omega (arith, q.few);
-        places = length-set at.ids at.count _ ∙ q.places;
-        whole = λ d e. takes id_of (λ (m : DbMicro). le (d m) c.args.r2) ms at.i _ h at.count at.ids _ (omega (arith, q.few, q.places, h, c.requires)) refl
-            (sym (ap (λ (v : Float). le v c.args.r2) (measured d ms ds at.i _ h e)) ∙ w.if-distances-i.true) ∙ q.whole d e;
-      })
-      | else-distances-i w ↦ rw (w.ids-is, w.count-is) (record {
-        few = omega (arith, q.few);
-        places = q.places;
-        whole = λ d e. skips id_of (λ (m : DbMicro). le (d m) c.args.r2) ms at.i z h at.count at.ids
-            (sym (ap (λ (v : Float). le v c.args.r2) (measured d ms ds at.i z h e)) ∙ w.if-distances-i.false) ∙ q.whole d e;
-      })
-    ]
+    skips : le v r2 ≡ false →
+        take k ids ++ map id_of (retain (λ (m : DbMicro). le (d m) r2) ms) ≡ take k ids ++ map id_of (retain (λ (m : DbMicro). le (d m) r2) l)
+    unfolding retain
+    skips t = rw (em, near false t)
+
+-- none is left
+ends : (p : DbMicro → Bool) (out : List MicroId) (l : List DbMicro) → length l ≡ 0 → out ++ map id_of (retain p l) ≡ out
+unfolding retain
+ends p out [] e = append-nil out
+ends p out (m ∷ ms) e = absurd (omega (arith, e))
+
+pub bounds-ids-count : goal.bounds-ids-count
+bounds-ids-count c = omega (arith, ap (λ (l : List DbMicro). length l) c.in-Some.ensures.steps.0, c.loop-m.invariant.few, c.requires)
+
+pub offset_bounds-ids-count : goal.offset_bounds-ids-count
+offset_bounds-ids-count c = omega (arith, ap (λ (l : List DbMicro). length l) c.in-Some.ensures.steps.0, c.loop-m.invariant.few, c.requires)
+
+pub overflow_add-count : goal.overflow_add-count
+overflow_add-count c = omega (arith, ap (λ (l : List DbMicro). length l) c.in-Some.ensures.steps.0, c.loop-m.invariant.few, c.requires)
+
+pub loop-m-preserved-then-d-r2 : goal.loop-m-preserved-then-d-r2
+loop-m-preserved-then-d-r2 c =
+    let k = c.loop-m in
+    let q = k.invariant in
+    let s = c.in-Some.ensures.steps in
+    let one = ap (λ (l : List DbMicro). length l) s.0 in
+    record {
+      few = omega (arith, one, q.few);
+      places = length-set k.ids k.count _ ∙ q.places;
+      measured = λ d e. others d _ _ _ _ _ _ s.0 s.1 (q.measured d e);
+      whole = λ d e. takes d _ _ _ _ _ _ s.0 s.1 (q.measured d e) c.args.r2 k.count k.ids (omega (arith, one, q.few, q.places, c.requires)) c.if-d-r2.true ∙ q.whole d e;
+    }
+
+pub loop-m-preserved : goal.loop-m-preserved
+loop-m-preserved c =
+    let k = c.loop-m in
+    let q = k.invariant in
+    let s = c.in-Some.ensures.steps in
+    record {
+      few = omega (arith, ap (λ (l : List DbMicro). length l) s.0, q.few);
+      places = q.places;
+      measured = λ d e. others d _ _ _ _ _ _ s.0 s.1 (q.measured d e);
+      whole = λ d e. skips d _ _ _ _ _ _ s.0 s.1 (q.measured d e) c.args.r2 k.count k.ids c.if-d-r2.false ∙ q.whole d e;
+    }
+
+pub returns-clause-few : goal.returns-clause-few
+returns-clause-few c = omega (arith, c.loop-m.invariant.few)
 
 pub returns-clause-near : goal.returns-clause-near
-unfolding retain
 returns-clause-near c = λ d e.
-    let at = c.loop-i in
-    let ms = c.args.micros.now in
-    let p : DbMicro → Bool = λ (m : DbMicro). le (d m) c.args.r2 in
-    sym (ap (λ (l : List DbMicro). take at.count at.ids ++ map id_of (retain p l)) (drop_all at.i ms c.loop-i-test.false) ∙ append-nil (take at.count at.ids))
-    ∙ at.invariant.whole d e
+    let k = c.loop-m in
+    let none : length k.m-iterator.a.rest.now ≡ 0 = elim c.in-None.ensures.steps [
+      | inl h ↦ h.1.0
+      | inr h ↦ sym (map_length d k.m-iterator.a.rest.now) ∙ ap (λ (l : List Float). length l) (sym (k.invariant.measured d e)) ∙ h.1.0
+    ] in
+    sym (ends (λ (m : DbMicro). le (d m) c.args.r2) (take k.count k.ids) k.m-iterator.a.rest.now none) ∙ k.invariant.whole d e

@@ -1,9 +1,9 @@
 -- `seek` meets its contract. Assumes nothing.
-use Rattle.std.proofs.Common.{◌≡◌, ◌+◌, refl, ap, subst, ◌∙◌, sym, take, arith}
+use Rattle.std.proofs.Common.{rules, ◌≡◌, ◌+◌, refl, ap, subst, ◌∙◌, sym, take, arith}
 use Rattle.std.proofs.lemmas.List.{take_rest}
 use Rattle.db_gains.specs.Laws.Passed.{passed_on}
 use Rattle.db_gains.proofs.Walks.{Begins, front, front_most, front_after, walk, sought}
-use Rattle.db_gains.proofs.walk.Walk.seek.Goals.{then-is_before, else-is_before}
+use Rattle.db_gains.proofs.walk.Walk.seek.Goals.{then-lt, else-lt}
 use Rattle.db_gains.proofs.walk.Walk.seek.Goals as goal
 
 pub overflow_add-self : goal.overflow_add-self
@@ -11,11 +11,11 @@ overflow_add-self c =
     let k = c.args.key in
     let ls = c.args.links.now in
     let old = c.args.self.now in
-    let s = c.if-is_before.self.at in
-    let begins : Begins k ls old.factor c.if-is_before.self = elim c.if-is_before.branch [
-      | then-is_before w ↦ subst (Begins k ls old.factor) (sym w.self-is) (omega arith, tt, refl)
-      | else-is_before w ↦ subst (Begins k ls old.factor) (sym w.self-is)
-          (c.requires.place, passed_on old.key k (take old.at ls) (sym c.is_before.ensures ∙ w.if-is_before.false) c.requires.passed, refl)
+    let s = c.if-lt.self.at in
+    let begins : Begins k ls old.factor c.if-lt.self = elim c.if-lt.branch [
+      | then-lt w ↦ subst (Begins k ls old.factor) (sym w.self-is) (omega arith, tt, refl)
+      | else-lt w ↦ subst (Begins k ls old.factor) (sym w.self-is)
+          (c.requires.place, passed_on old.key k (take old.at ls) (search rules) c.requires.passed, refl)
     ] in
     let found : s + c.passed.result ≡ front k ls = ap (λ n. s + n) (c.passed.ensures ∙ ap (front k) (take_rest ls s)) ∙ front_after k s ls begins.0 begins.1 in
     omega (arith, found, front_most k ls)
@@ -25,9 +25,9 @@ returns c =
     let k = c.args.key in
     let ls = c.args.links.now in
     let old = c.args.self.now in
-    let begins : Begins k ls old.factor c.if-is_before.self = elim c.if-is_before.branch [
-      | then-is_before w ↦ subst (Begins k ls old.factor) (sym w.self-is) (omega arith, tt, refl)
-      | else-is_before w ↦ subst (Begins k ls old.factor) (sym w.self-is)
-          (c.requires.place, passed_on old.key k (take old.at ls) (sym c.is_before.ensures ∙ w.if-is_before.false) c.requires.passed, refl)
+    let begins : Begins k ls old.factor c.if-lt.self = elim c.if-lt.branch [
+      | then-lt w ↦ subst (Begins k ls old.factor) (sym w.self-is) (omega arith, tt, refl)
+      | else-lt w ↦ subst (Begins k ls old.factor) (sym w.self-is)
+          (c.requires.place, passed_on old.key k (take old.at ls) (search rules) c.requires.passed, refl)
     ] in
-    sought k ls c.if-is_before.self.at c.passed.result c.if-is_before.self.factor begins.0 begins.1 c.passed.ensures ∙ ap (walk k (front k ls)) begins.2
+    sought k ls c.if-lt.self.at c.passed.result c.if-lt.self.factor begins.0 begins.1 c.passed.ensures ∙ ap (walk k (front k ls)) begins.2
