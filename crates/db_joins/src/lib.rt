@@ -41,7 +41,7 @@ impl Joining<'_> {
     // The places of the ends, if the link joins them: both are strong, and it has faded to no less than dense.
     fn ends(&self, l: &Link) -> Option<(usize, usize)>
         requires { length self.now.strong.now ≤ length self.now.micros.now }
-        ensures { let all = self.now in result ≡ ends_by (map id_of all.micros.now) all.strong.now all.lambda all.t all.dense l.now }
+        ensures { result ≡ ends_by (map id_of self.now.micros.now) self.now.strong.now self.now.lambda self.now.t self.now.dense l.now }
     {
         let i = place_of(self.micros, l.lo)?;
         let j = place_of(self.micros, l.hi)?;
@@ -51,13 +51,12 @@ impl Joining<'_> {
         joins.then_some((i, j))
     }
 
-    // The pairs in the order of the links; how many they are. A lent slice and a count: an ArrayVec proves too, but no crate under
-    // the C library stands on one of the kit beside std.
+    // The pairs in the order of the links, written into the caller's array; how many they are. A lent slice and a count: union_find
+    // takes the pairs as a slice, and an array of 2,016 pairs is not returned by copying it.
     fn pairs(&self, links: &[Link], pairs: &mut [(usize, usize)]) -> usize
         requires told { length self.now.strong.now ≤ length self.now.micros.now }
         requires room { length links.now ≤ length pairs.old }
-        ensures pairs_after { let all = self.now in
-            take result pairs.new ≡ joined_by (map id_of all.micros.now) all.strong.now all.lambda all.t all.dense links.now }
+        ensures pairs_after { take result pairs.new ≡ joined_by (map id_of self.now.micros.now) self.now.strong.now self.now.lambda self.now.t self.now.dense links.now }
         ensures places { result ≤ length links.now }
     {
         let mut k: usize = 0;
