@@ -32,7 +32,7 @@ pub fn say_opening(rt: &impl Print, answer: Result<(), OpenError>) -> io::Result
 pub fn say_insertion(rt: &impl Print, answer: Result<(), InsertError>) -> io::Result<()> {
     match answer {
         Ok(()) => println!(rt; "ok"),
-        Err(InsertError::Shape { expected, got }) => say_shape(rt, ShapeError { expected, got }),
+        Err(InsertError::Shape(error)) => say_shape(rt, error),
         Err(error) => say_refused(rt, error),
     }
 }

@@ -19,7 +19,7 @@ loop-i-preserved g c =
     let n = c.number_of in
     going_on (insert_of k.kind) a.lengths.now a.values.now (k.view a.stream) (k.view l.s) _ a.numbers.now l.numbers
     l.i c.min.result n.result l.rest.now c.split_at.result.0.now c.split_at.result.1.now l.invariant c.loop-i-test.true c.requires c.min.ensures
-    c.split_at.ensures.front c.split_at.ensures.back r.ensures
+    c.split_at.ensures.front c.split_at.ensures.back r.ensures.result_value
     (number_of_insertion r.result.answer n.ensures)
 
 pub returns : goal.returns
