@@ -5,13 +5,13 @@ use native.Mathlib.Omega.{arith}
 use native.Mathlib.Decide.{dec_lt}
 use mathlib.Core.Path.{◌≡◌, refl, sym, ap, ◌∙◌}
 use mathlib.Core.Logic.{by_cases, ◌⊎◌, inl, inr, ⊎_elim}
-use mathlib.Core.List.{List, ◌++◌, map, append-nil}
+use mathlib.Core.List.{List, [], ◌++◌, ◌∷◌, map, append-nil}
 use mathlib.Core.Bool.{Bool, true, false, true≢false, ◌&&◌, cond}
 use borrow.Author.Tests.{lt-ltb, le-ltb}
 use lib.Dec.{eqb}
 use lib.Ieee.{Float, le}
-use lib.ListN.{length, take, drop, get_or, set, drop_of_length-le, get_or-eq_default}
-use lib.Seq.{append_snoc, drop-cons, take-suc-set}
+use lib.ListN.{length, length-append, drop, get_or, drop_of_length-le, get_or-eq_default}
+use lib.Seq.{append_snoc, drop-cons}
 use Rattle.std.specs.Prelude.{Option, Some, None, position}
 use Rattle.std.specs.Bool.{then_some}
 use Rattle.std.specs.List.{position_or_len}
@@ -100,39 +100,36 @@ module _ (ids : List MicroId) (strong : List Bool) (lambda t dense : Float) wher
     pub hi_past : length strong ≤ place_among ids l.hi → ◌≡◌ {A = Option (ℕ × ℕ)} None (ends_by ids strong lambda t dense l)
     hi_past h = ends_none (inr (inl (get_or-eq_default strong false {n = place_among ids l.hi} h)))
 
-  -- ---- the first k pairs stand for the links passed
-  pub record Pairing (links : List Link) (ps : List (ℕ × ℕ)) (k i : ℕ) : Type 0 where
-    pub few : k ≤ i
-    pub made : take k ps ++ joined_by ids strong lambda t dense (drop i links) ≡ joined_by ids strong lambda t dense links
+  -- ---- the pairs stand for the links passed
+  pub record Pairing (links : List Link) (ps : List (ℕ × ℕ)) (i : ℕ) : Type 0 where
+    pub few : length ps ≤ i
+    pub made : ps ++ joined_by ids strong lambda t dense (drop i links) ≡ joined_by ids strong lambda t dense links
 
-  module _ (links : List Link) (ps : List (ℕ × ℕ)) (k i : ℕ) (g : Pairing links ps k i) (z : Link) (h : i < length links) where
-    pub pair_taken :
-        (e : ℕ × ℕ) → k < length ps → Some e ≡ ends_by ids strong lambda t dense (get_or links i z) → Pairing links (set ps k e) (k + 1) (i + 1)
+  module _ (links : List Link) (ps : List (ℕ × ℕ)) (i : ℕ) (g : Pairing links ps i) (z : Link) (h : i < length links) where
+    pub pair_taken : (e : ℕ × ℕ) → Some e ≡ ends_by ids strong lambda t dense (get_or links i z) → Pairing links (ps ++ e ∷ []) (i + 1)
     unfolding joined_by
-    pair_taken e room q =
+    pair_taken e q =
         let j = joins_some (joins_by ids strong lambda t dense (get_or links i z)) e _ q in
         let ex = j.1 in
-        let step : take (k + 1) (set ps k e) ++ joined_by ids strong lambda t dense (drop (i + 1) links)
-        ≡ take k ps ++ joined_by ids strong lambda t dense (drop i links) =
-        rw (drop-cons links i z h, j.0, ← ex, add-one i, add-one k, take-suc-set ps k e room, append_snoc (take k ps) e) in
-        record { few = omega (arith, g.few); made = step ∙ g.made }
+        let step : (ps ++ e ∷ []) ++ joined_by ids strong lambda t dense (drop (i + 1) links) ≡ ps ++ joined_by ids strong lambda t dense (drop i links) =
+        rw (drop-cons links i z h, j.0, ← ex, add-one i, append_snoc ps e) in
+        record { few = omega (arith, g.few, length-append ps (e ∷ [])); made = step ∙ g.made }
 
-    pub pair_passed : ◌≡◌ {A = Option (ℕ × ℕ)} None (ends_by ids strong lambda t dense (get_or links i z)) → Pairing links ps k (i + 1)
+    pub pair_passed : ◌≡◌ {A = Option (ℕ × ℕ)} None (ends_by ids strong lambda t dense (get_or links i z)) → Pairing links ps (i + 1)
     unfolding joined_by
     pair_passed q =
         let j = joins_none (joins_by ids strong lambda t dense (get_or links i z)) _ q in
-        let step : take k ps ++ joined_by ids strong lambda t dense (drop (i + 1) links)
-        ≡ take k ps ++ joined_by ids strong lambda t dense (drop i links) =
+        let step : ps ++ joined_by ids strong lambda t dense (drop (i + 1) links) ≡ ps ++ joined_by ids strong lambda t dense (drop i links) =
         rw (drop-cons links i z h, j, add-one) in
         record { few = omega (arith, g.few); made = step ∙ g.made }
 
-  pub pair_start : (links : List Link) (ps : List (ℕ × ℕ)) → Pairing links ps 0 0
-  pair_start links ps = record { few = omega arith; made = refl }
+  pub pair_start : (links : List Link) (ps : List (ℕ × ℕ)) → ps ≡ [] → Pairing links ps 0
+  pair_start links ps e = rw e (record { few = omega arith; made = refl })
 
   -- no link is left
-  pub pair_end : (links : List Link) (ps : List (ℕ × ℕ)) (k i : ℕ) → length links ≤ i → Pairing links ps k i → take k ps ≡ joined_by ids strong lambda t dense links
+  pub pair_end : (links : List Link) (ps : List (ℕ × ℕ)) (i : ℕ) → length links ≤ i → Pairing links ps i → ps ≡ joined_by ids strong lambda t dense links
   unfolding joined_by
-  pair_end links ps k i h g =
-      sym (append-nil (take k ps))
-      ∙ ap (λ (ls : List Link). take k ps ++ joined_by ids strong lambda t dense ls) (sym (drop_of_length-le links h))
+  pair_end links ps i h g =
+      sym (append-nil ps)
+      ∙ ap (λ (ls : List Link). ps ++ joined_by ids strong lambda t dense ls) (sym (drop_of_length-le links h))
       ∙ g.made

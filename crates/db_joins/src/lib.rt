@@ -9,6 +9,7 @@ ghost use Rattle.model.specs.DbInsert.{id_of};
 ghost use Rattle.db_joins.specs.Joined.{joined_by};
 ghost use Rattle.db_joins.specs.Inside.Ends.{ends_by};
 
+use arrayvec::ArrayVec;
 use labels::Labelled;
 use model::{DbMicro, LINKS, Link, MICROS, MicroId};
 
@@ -51,22 +52,19 @@ impl Joining<'_> {
         joins.then_some((i, j))
     }
 
-    // The pairs in the order of the links, written into the caller's array; how many they are. A lent slice and a count: union_find
-    // takes the pairs as a slice, and an array of 2,016 pairs is not returned by copying it.
-    fn pairs(&self, links: &[Link], pairs: &mut [(usize, usize)]) -> usize
+    // The pairs in the order of the links.
+    fn pairs(&self, links: &[Link]) -> ArrayVec<(usize, usize), LINKS>
         requires told { length self.now.strong.now ≤ length self.now.micros.now }
-        requires room { length links.now ≤ length pairs.old }
-        ensures pairs_after { take result pairs.new ≡ joined_by (map id_of self.now.micros.now) self.now.strong.now self.now.lambda self.now.t self.now.dense links.now }
-        ensures places { result ≤ length links.now }
+        requires few { length links.now ≤ LINKS }
+        ensures { result.items ≡ joined_by (map id_of self.now.micros.now) self.now.strong.now self.now.lambda self.now.t self.now.dense links.now }
     {
-        let mut k: usize = 0;
+        let mut pairs = ArrayVec::new();
         for l in links {
             if let Some(ends) = self.ends(l) {
-                pairs[k] = ends;
-                k += 1;
+                pairs.push(ends);
             }
         }
-        k
+        pairs
     }
 }
 
@@ -86,7 +84,6 @@ pub fn labels_of(
 {
     let links = &links[..links.len().min(LINKS)];
     let strong = &strong[..strong.len().min(micros.len()).min(MICROS)];
-    let mut pairs = [(0usize, 0usize); LINKS];
     let joining = Joining {
         micros,
         strong,
@@ -94,8 +91,8 @@ pub fn labels_of(
         t,
         dense,
     };
-    let k = joining.pairs(links, &mut pairs);
-    let rooted = union_find::roots(&pairs[..k], strong);
+    let pairs = joining.pairs(links);
+    let rooted = union_find::roots(&pairs, strong);
     Labelled {
         labels: labels::labels(&rooted.roots, strong),
         work: rooted.work,

@@ -1,5 +1,6 @@
 -- `labels_of` meets its contract: what is cut keeps its meaning, and the roots of the strong ones are enough. Assumes nothing.
 use Prim.Native.Nat.{◌≤◌, min}
+use mathlib.Core.Path.{◌∙◌}
 use native.Mathlib.Omega.{arith}
 use lib.ListN.{length, take, length-take}
 use Rattle.union_find.specs.Forest.{places}
@@ -14,7 +15,7 @@ returns c =
     let few : length strong ≤ places = omega (arith, length-take c.min-3.result a.strong.now) in
     let known = cut_same c.min-3.result (min (length a.micros.now) micros_most) a.strong.now (omega arith) in
     let links = cut_same c.min.result links_most a.links.now (omega arith) in
-    let pairs = c.pairs-k.ensures.pairs_after in
+    let pairs = c.deref.ensures.0 ∙ c.pairs-pairs.ensures in
     let rooted = c.roots-rooted.ensures in
     record {
       labels_value = rw (← known, ← links, ← pairs) (labelled strong few _ _ _ rooted.roots_value c.labels.ensures);
