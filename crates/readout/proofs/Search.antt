@@ -44,7 +44,9 @@ module _ {A : Type 0} (d : A → Float) where
   found_none [] h = refl
   found_none (a ∷ l) h = absurd (omega arith)
 
-  pub found_first : (l : List A) (a : A) (rest : List A) (v : Float) → l ≡ a ∷ rest → v ≡ d a → Some (found_from (record { place = 0; dist = v }) 1 rest) ≡ found_of (nearest_of d l)
+  pub found_first :
+      (l : List A) (a : A) (rest : List A) (v : Float) → l ≡ a ∷ rest → v ≡ d a →
+      Some (found_from (record { place = 0; dist = v }) 1 rest) ≡ found_of (nearest_of d l)
   found_first l a rest v e ev = rw (e, ev) (found_start a rest)
 
   module _ (rest : List A) (f : Found) (i : ℕ) where

@@ -1,5 +1,6 @@
 -- `nearest` meets its contract. Assumes nothing.
-use Rattle.std.proofs.Common.{refl, sym, ap, ◌∙◌, ◌≡◌, Some}
+use Rattle.std.proofs.Common.{refl, sym, ap, ◌∙◌, ◌≡◌, Bool, Some}
+use Rattle.std.specs.Float.Ieee.{lt}
 use Rattle.std.proofs.lemmas.Fn.{says_at}
 use Rattle.readout.proofs.Search.{found_none, found_first, found_next, found_end}
 use Rattle.readout.proofs.distances.nearest.Goals.{then-dist-found, else-dist-found}
@@ -20,9 +21,11 @@ loop-i-preserved g c =
     let item = c.index-rest-i in
     λ d a.
     let said : c.distance-dist.result ≡ d item.result = a _ _ (says_at g.F.Fn c.distance-dist.ensures refl) in
+    let next = λ (t : Bool) (e : lt c.distance-dist.result at.found.dist ≡ t).
+    ap Some (found_next d rest at.found at.i item.result c.distance-dist.result t c.loop-i-test.true item.is said e) ∙ at.invariant d a in
     elim c.if-dist-found.branch [
-      | then-dist-found w ↦ rw w.found-is (ap Some (found_next d rest at.found at.i item.result c.distance-dist.result _ c.loop-i-test.true item.is said w.if-dist-found.true) ∙ at.invariant d a)
-      | else-dist-found w ↦ rw w.found-is (ap Some (found_next d rest at.found at.i item.result c.distance-dist.result _ c.loop-i-test.true item.is said w.if-dist-found.false) ∙ at.invariant d a)
+      | then-dist-found w ↦ rw w.found-is (next _ w.if-dist-found.true)
+      | else-dist-found w ↦ rw w.found-is (next _ w.if-dist-found.false)
     ]
 
 pub returns : goal.returns
