@@ -34,10 +34,7 @@ fn link_of(links: &[Link], key: &Link) -> Option<Link>
 fn weight_now(micros: &[DbMicro], id: MicroId, lambda: f64, t: f64) -> f64
     ensures { result ≡ weight_now lambda t micros.now id }
 {
-    match micro_of(micros, id) {
-        Some(m) => m.body.faded_weight(lambda, t),
-        None => 0.0,
-    }
+    micro_of(micros, id).map_or(0.0, |m| m.body.faded_weight(lambda, t))
 }
 
 // The mean of the weights of two.
@@ -56,10 +53,8 @@ fn density(links: &[Link], a: MicroId, b: MicroId, mean: f64, lambda: f64, t: f6
     if mean == 0.0 {
         return 0.0;
     }
-    match link_of(links, &key_of(a, b, t)) {
-        Some(l) => model::faded(l.value, lambda, t, l.last) / mean,
-        None => 0.0,
-    }
+    let key = key_of(a, b, t);
+    link_of(links, &key).map_or(0.0, |l| model::faded(l.value, lambda, t, l.last) / mean)
 }
 
 // The link of two live micro-clusters over the mean of their weights, link and weights as faded by now.

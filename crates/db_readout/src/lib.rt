@@ -1,4 +1,5 @@
-// What a DBSTREAM reads out: the calls of readout under each stream's own name, since a promise names its view. Apart from the stream, since a check grows with the functions over so large a struct.
+// What a DBSTREAM reads out: the calls of readout under each stream's own name, since a promise names its view. Apart from the stream,
+// since a check grows with the functions over so large a struct.
 #![tactic(auto)]
 
 mod connected;
@@ -42,7 +43,7 @@ pub fn try_predict(stream: &DbStream, x: &[f64]) -> Result<i64, ShapeError>
     )
 }
 
-// The means one after another, the faded weights and the radii, into lent slices.
+// The means one after another, the faded weights and the radii, into lent slices: three, for the reason beside `readout::statistics`.
 pub fn micro_stats(
     stream: &DbStream,
     centres: &mut [f64],

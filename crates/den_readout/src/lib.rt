@@ -1,4 +1,5 @@
-// What a DenStream reads out of its potential micro-clusters: the calls of readout, promised of this stream's view. Apart from the stream, since a check grows with the functions over so large a struct.
+// What a DenStream reads out of its potential micro-clusters: the calls of readout, promised of this stream's view. Apart from the stream,
+// since a check grows with the functions over so large a struct.
 #![tactic(auto)]
 
 ghost use Rattle.std.specs.Prelude.{◌≡◌};
@@ -39,7 +40,7 @@ pub fn try_predict(stream: &DenStream, x: &[f64]) -> Result<i64, ShapeError>
     )
 }
 
-// The centres one after another, the faded weights and the radii, into lent slices.
+// The centres one after another, the faded weights and the radii, into lent slices: three, for the reason beside `readout::statistics`.
 pub fn potential_stats(
     stream: &DenStream,
     centres: &mut [f64],

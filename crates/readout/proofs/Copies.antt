@@ -1,29 +1,19 @@
 -- Elements due, written one by one into a list; what lies beyond them stays. Assumes nothing.
-use Prim.Native.Nat.{ℕ, suc, ◌+◌, ◌≤◌, ◌<◌, min}
+use Prim.Native.Nat.{ℕ, suc, ◌+◌, ◌≤◌, ◌<◌}
 use mathlib.Core.Path.{◌≡◌, sym, ap, ap₂, ◌∙◌}
 use mathlib.Core.List.{List, [], ◌∷◌, ◌++◌, append_assoc}
 use native.Mathlib.Numerals.{add-one}
 use native.Mathlib.Omega.{arith}
-use lib.ListN.{length, take, drop, get_or, set, length-append, length-take, length-drop}
+use lib.ListN.{length, take, drop, get_or, set, length-drop}
 use lib.Seq.{drop-cons, drop-drop, set_at, take_at, drop_at, take-add, take-suc, take-length, append_snoc, length-take-le}
 use borrow.Rule.Slice.PartMut.{put_mid}
 use Rattle.model.specs.ReadOut.{written}
-
--- how many of those in a list are within a count, cut to the m places
-pub cut_length : {A : Type 0} (n end m : ℕ) (l : List A) → end ≡ min n m → length l ≡ m → length (take n l) ≡ end
-cut_length n end m l e h = length-take n l ∙ ap (min n) h ∙ sym e
 
 -- the first i of those due are written
 abbrev pub partly : {A : Type 0} → (due lent : List A) (i : ℕ) → List A
 partly due lent i = take i due ++ drop i lent
 
 module _ {A : Type 0} (due lent out : List A) (n : ℕ) (count : length due ≡ n) (room : n ≤ length lent) (i : ℕ) (e : out ≡ partly due lent i) where
-  pub copy_length : i ≤ n → length out ≡ length lent
-  copy_length h = ap length e ∙ simp (length-append, length-take, length-drop) (omega arith)
-
-  pub copy_place : i < n → i < length out
-  copy_place h = let q : length out ≡ length lent = copy_length (let k : i ≤ n = omega arith in k) in omega arith
-
   pub copy_step : (v d : A) → v ≡ get_or due i d → i < n → set out i v ≡ partly due lent (i + 1)
   copy_step v d ev h =
       let hd : i < length due = omega arith in

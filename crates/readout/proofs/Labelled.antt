@@ -23,10 +23,13 @@ module _ (radius2 : Float) (labels : List ℤ) (dim : ℕ) {M : Type 0} (body_of
   abbrev pub measured : M → Float
   measured m = distance_to x (body_in (min dim max_dim) (body_of m))
 
-  by_counts : (t : Bool) → (length labels == length ms) ≡ t → label_for radius2 bodies labels x ≡ cond t (label_near radius2 labels (nearest_of (distance_to x) bodies)) (negsuc 0)
+  by_counts :
+      (t : Bool) → (length labels == length ms) ≡ t →
+      label_for radius2 bodies labels x ≡ cond t (label_near radius2 labels (nearest_of (distance_to x) bodies)) (negsuc 0)
   unfolding label_for
   by_counts t e =
-      ap₂ (λ (n : ℕ) (b : Bool). cond b (label_near radius2 labels (nearest_of (distance_to x) bodies)) (negsuc 0)) (map_length (λ m. body_in (min dim max_dim) (body_of m)) ms)
+      ap₂ (λ (n : ℕ) (b : Bool). cond b (label_near radius2 labels (nearest_of (distance_to x) bodies)) (negsuc 0))
+      (map_length (λ m. body_in (min dim max_dim) (body_of m)) ms)
       (ap (λ (n : ℕ). length labels == n) (map_length (λ m. body_in (min dim max_dim) (body_of m)) ms) ∙ e)
 
   pub label_differ : length labels ≢ length ms → negsuc 0 ≡ label_for radius2 bodies labels x

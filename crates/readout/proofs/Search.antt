@@ -1,5 +1,5 @@
 -- The nearest as a loop finds it. Assumes nothing.
-use Rattle.std.specs.Prelude.{ℕ, ◌+◌, ◌<◌, ◌≤◌, ◌≡◌, refl, Bool, true, false, cond, List, [], ◌∷◌, length, drop, Float, Some, None, slice_get, slice_index_or}
+use Rattle.std.specs.Prelude.{ℕ, ◌+◌, ◌<◌, ◌≤◌, ◌≡◌, refl, Bool, true, false, cond, List, [], ◌∷◌, length, drop, Float, Some, None, get_or}
 use Rattle.std.proofs.Common.{ap, ap₂, sym, ◌∙◌, arith, add-one}
 use Rattle.std.proofs.Math.Seq.{drop-cons}
 use Rattle.std.proofs.Math.ListN.{drop_of_length-le}
@@ -38,24 +38,27 @@ module _ {A : Type 0} (d : A → Float) where
   unfolding found_from
   found_step f i a l = refl
 
-  -- ---- the loop over a slice
-  pub found_none : (l : List A) → slice_get l 0 ≡ None → None ≡ found_of (nearest_of d l)
+  -- ---- the loop over what stands behind the first
+  pub found_none : (l : List A) → length l ≡ 0 → None ≡ found_of (nearest_of d l)
   unfolding nearest_of
   found_none [] h = refl
-  found_none (a ∷ l) h = let z : ◌≡◌ {A = ℕ} 0 1 = cc in absurd (omega arith)
+  found_none (a ∷ l) h = absurd (omega arith)
 
-  pub found_first : (l : List A) (a : A) (v : Float) → slice_get l 0 ≡ Some a → v ≡ d a → Some (found_from (record { place = 0; dist = v }) 1 (drop 1 l)) ≡ found_of (nearest_of d l)
-  found_first [] a v h e = let z : ◌≡◌ {A = ℕ} 0 1 = cc in absurd (omega arith)
-  found_first (b ∷ l) a v h e = let q : a ≡ b = cc in rw (e, q) (found_start b l)
+  pub found_first :
+      (l : List A) (a : A) (rest : List A) (v : Float) → l ≡ a ∷ rest → v ≡ d a →
+      Some (found_from (record { place = 0; dist = v }) 1 rest) ≡ found_of (nearest_of d l)
+  found_first l a rest v e ev = rw (e, ev) (found_start a rest)
 
-  module _ (l : List A) (f : Found) (i : ℕ) where
+  module _ (rest : List A) (f : Found) (i : ℕ) where
     pub found_next :
-        (a : A) (v : Float) (t : Bool) → i < length l → a ≡ slice_index_or l i a → v ≡ d a → lt v f.dist ≡ t →
-        found_from (cond t (record { place = i; dist = v }) f) (i + 1) (drop (i + 1) l) ≡ found_from f i (drop i l)
+        (a : A) (v : Float) (t : Bool) → i < length rest → a ≡ get_or rest i a → v ≡ d a → lt v f.dist ≡ t →
+        found_from (cond t (record { place = i + 1; dist = v }) f) (i + 1 + 1) (drop (i + 1) rest) ≡ found_from f (i + 1) (drop i rest)
     found_next a v t h ea ev et =
         rw (← et, ev)
-        (sym (ap (found_from f i) (drop-cons l i a h ∙ ap₂ (λ (b : A) (k : ℕ). b ∷ drop k l) (sym ea) (sym (add-one i))) ∙ found_step f i a (drop (i + 1) l)))
+        (sym
+        (ap (found_from f (i + 1)) (drop-cons rest i a h ∙ ap₂ (λ (b : A) (k : ℕ). b ∷ drop k rest) (sym ea) (sym (add-one i)))
+        ∙ found_step f (i + 1) a (drop (i + 1) rest)))
 
-    pub found_end : length l ≤ i → found_from f i (drop i l) ≡ f
+    pub found_end : length rest ≤ i → found_from f (i + 1) (drop i rest) ≡ f
     unfolding found_from
-    found_end h = rw (drop_of_length-le l h)
+    found_end h = rw (drop_of_length-le rest h)

@@ -16,17 +16,15 @@ pub fn nearest<M, F: Fn(&M) -> f64>(items: &[M], distance: F) -> Option<Found>
     requires { F.IsAlwaysCallable distance }
     ensures { (d : M → Float) → AnswersBy F.Fn distance d → result ≡ found_of (nearest_of d items.now) }
 {
-    let Some(first) = items.first() else {
-        return None;
-    };
+    let (first, rest) = items.split_first()?;
     let mut found = Found {
         place: 0,
         dist: distance(first),
     };
-    for place in 1..items.len() {
-        let dist = distance(&items[place]);
+    for (i, item) in rest.iter().enumerate() {
+        let dist = distance(item);
         if dist < found.dist {
-            found = Found { place, dist };
+            found = Found { place: i + 1, dist };
         }
     }
     Some(found)

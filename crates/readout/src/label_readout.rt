@@ -31,17 +31,15 @@ fn stands_in(label: &i64, labels: &[i64]) -> bool
     labels.iter().any(|other| same_family(label, other))
 }
 
-// How many different labels there are, -1 left out: each is counted where it stands last. No iterator gives a label with those behind it.
+// How many different labels there are, -1 left out: each is counted where it stands last.
 pub fn n_clusters(labels: &[i64]) -> usize
     ensures { result ≡ clusters_in labels.now }
 {
     let mut n = 0;
-    let mut rest = labels;
-    while let Some((label, behind)) = rest.split_first() {
-        if same_family(label, label) && !stands_in(label, behind) {
+    for (i, label) in labels.iter().enumerate() {
+        if same_family(label, label) && !stands_in(label, &labels[i + 1..]) {
             n += 1;
         }
-        rest = behind;
     }
     n
 }

@@ -1,5 +1,5 @@
 // The label that a point is told.
-ghost use Rattle.std.specs.Prelude.{◌≡◌, map, min};
+ghost use Rattle.std.specs.Prelude.{◌≡◌, min, negsuc, unwrap_or};
 ghost use Rattle.feature.specs.Feature.{max_dim};
 ghost use Rattle.model.specs.Answers.{prediction_said};
 ghost use Rattle.model.specs.ReadOut.{label_for, predict_of};
@@ -9,20 +9,24 @@ use crate::distances::nearest;
 use feature::MAX_DIM;
 use model::{Micro, ShapeError};
 
-// The label of the nearest; -1 if the counts differ, none exists, or the nearest is too far.
-fn label_for<M: Micro>(micros: &[M], labels: &[i64], radius2: f64, dim: usize, x: &[f64]) -> i64
-    ensures { result ≡ label_for radius2 (seen dim M.body_of micros.now) labels.now x.now }
+// The label of the nearest; none if the counts differ, nothing is there, or the nearest is too far.
+fn label_for<M: Micro>(
+    micros: &[M],
+    labels: &[i64],
+    radius2: f64,
+    dim: usize,
+    x: &[f64],
+) -> Option<i64>
+    ensures { unwrap_or result (negsuc 0) ≡ label_for radius2 (seen dim M.body_of micros.now) labels.now x.now }
 {
     if labels.len() != micros.len() {
-        return -1;
+        return None;
     }
-    let Some(found) = nearest(micros, |m| m.body().distance(x, dim)) else {
-        return -1;
-    };
+    let found = nearest(micros, |m| m.body().distance(x, dim))?;
     if found.dist <= radius2 {
-        labels.get(found.place).copied().unwrap_or(-1)
+        labels.get(found.place).copied()
     } else {
-        -1
+        None
     }
 }
 
@@ -41,5 +45,5 @@ pub fn predict<M: Micro>(
     if got != expected {
         return Err(ShapeError { expected, got });
     }
-    Ok(label_for(micros, labels, radius2, dim, x))
+    Ok(label_for(micros, labels, radius2, dim, x).unwrap_or(-1))
 }

@@ -1,5 +1,6 @@
 // The micro-clusters' centres, faded weights and radii.
 ghost use Rattle.std.specs.Prelude.{◌≡◌, map, ◌≤◌, ◌*◌, take, length};
+ghost use Rattle.std.specs.List.{All};
 ghost use Rattle.feature.specs.Feature.{max_dim};
 ghost use Rattle.model.specs.Body.{faded_weight, radius_of, body_in};
 ghost use Rattle.model.specs.Limits.{micros_most};
@@ -10,71 +11,33 @@ ghost use Rattle.readout.specs.Told.{statistics_told};
 use feature::MAX_DIM;
 use model::{Body, MICROS, Micro, TooShort};
 
-// The means' first coordinates, one mean after another. The bodies come in their array, and not in a slice: how many
-// coordinates are due rests on each mean's having 15 places, which is known of an array's elements and not of a slice's.
-fn write_centres(bodies: [Body; MICROS], end: usize, width: usize, out: &mut [f64])
-    requires { (end ≤ micros_most) × (width ≤ max_dim) × (end * width ≤ length out.old) }
-    ensures { out.new ≡ written (centres_of (map (body_in width) (take end bodies))) out.old }
+// The means' first coordinates, one mean after another. That each mean has its 15 places is known of an array's elements, and asked of a slice's.
+fn write_centres(bodies: &[Body], width: usize, out: &mut [f64])
+    requires wide { All (λ b. length b.cf.mean ≡ max_dim) bodies.now }
+    requires room { (width ≤ max_dim) × (length bodies.now * width ≤ length out.old) }
+    ensures { out.new ≡ written (centres_of (map (body_in width) bodies.now)) out.old }
 {
-    for i in 0..end {
+    for (i, body) in bodies.iter().enumerate() {
         let at = i * width;
-        let mean = bodies[i].cf.mean;
-        out[at..at + width].copy_from_slice(&mean[..width]);
+        out[at..at + width].copy_from_slice(&body.cf.mean[..width]);
     }
 }
 
-// Each one's weight, faded to t, and radius; of the same array as the means.
-fn write_figures(
-    bodies: [Body; MICROS],
-    end: usize,
-    lambda: f64,
-    t: f64,
-    weights: &mut [f64],
-    radii: &mut [f64],
-)
-    requires { (end ≤ micros_most) × (end ≤ length weights.old) × (end ≤ length radii.old) }
-    ensures weights_after { weights.new ≡ written (map (faded_weight lambda t) (take end bodies)) weights.old }
-    ensures radii { radii.new ≡ written (map radius_of (take end bodies)) radii.old }
+// Each one's weight, faded to t, and radius.
+fn write_figures(bodies: &[Body], lambda: f64, t: f64, weights: &mut [f64], radii: &mut [f64])
+    requires { (length bodies.now ≤ length weights.old) × (length bodies.now ≤ length radii.old) }
+    ensures weights_after { weights.new ≡ written (map (faded_weight lambda t) bodies.now) weights.old }
+    ensures radii { radii.new ≡ written (map radius_of bodies.now) radii.old }
 {
-    // Over places: of what a zip of `iter_mut()` writes std says nothing.
-    for i in 0..end {
-        let body = &bodies[i];
+    for (i, body) in bodies.iter().enumerate() {
         weights[i] = body.faded_weight(lambda, t);
         radii[i] = body.radius();
     }
 }
 
-// Of the first n bodies, of dim coordinates, at the clock t. Every slice is asked before one is written.
-fn statistics_of(
-    bodies: [Body; MICROS],
-    n: usize,
-    lambda: f64,
-    t: f64,
-    dim: usize,
-    centres: &mut [f64],
-    weights: &mut [f64],
-    radii: &mut [f64],
-) -> Result<(), TooShort>
-    ensures { statistics_told result centres.new weights.new radii.new
-        ≡ statistics_read lambda t (seen dim (λ b. b) (take n bodies)) centres.old weights.old radii.old }
-{
-    let end = n.min(MICROS);
-    let width = dim.min(MAX_DIM);
-    if centres.len() < end * width {
-        return Err(TooShort);
-    }
-    if weights.len() < end {
-        return Err(TooShort);
-    }
-    if radii.len() < end {
-        return Err(TooShort);
-    }
-    write_centres(bodies, end, width, centres);
-    write_figures(bodies, end, lambda, t, weights, radii);
-    Ok(())
-}
-
-// Of the first 64 micro-clusters, of dim coordinates, at the clock t.
+// Of the first 64 micro-clusters, of dim coordinates, at the clock t. Every slice is asked before one is written.
+// Three slices and no struct of them: the caller lends three of its own, as document 01's read-out names them, and a struct of three
+// `&mut` slices would be made for one call and taken apart in it.
 pub fn statistics<M: Micro>(
     micros: &[M],
     lambda: f64,
@@ -87,15 +50,15 @@ pub fn statistics<M: Micro>(
     ensures { statistics_told result centres.new weights.new radii.new
         ≡ statistics_read lambda t (seen dim M.body_of (take micros_most micros.now)) centres.old weights.old radii.old }
 {
-    let bodies = lists::each(micros, Body::new(), |m| *m.body());
-    statistics_of(
-        bodies,
-        micros.len(),
-        lambda,
-        t,
-        dim,
-        centres,
-        weights,
-        radii,
-    )
+    // In an array, since `write_centres` asks what is known of its elements.
+    let all: [Body; MICROS] = lists::each(micros, Body::new(), |m| *m.body());
+    let bodies = &all[..micros.len().min(MICROS)];
+    let width = dim.min(MAX_DIM);
+    let n = bodies.len();
+    if centres.len() < n * width || weights.len() < n || radii.len() < n {
+        return Err(TooShort);
+    }
+    write_centres(bodies, width, centres);
+    write_figures(bodies, lambda, t, weights, radii);
+    Ok(())
 }

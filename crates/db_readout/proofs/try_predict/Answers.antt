@@ -1,5 +1,5 @@
 -- `try_predict` meets its contract. Assumes nothing.
-use Rattle.std.proofs.Common.{refl, ap, ap₂, ◌∙◌, List, ℤ, min, map}
+use Rattle.std.proofs.Common.{rules, refl, ap, ap₂, ◌∙◌, List, ℤ, min, map}
 use Rattle.feature.specs.Feature.{max_dim}
 use Rattle.model.specs.declared.body.Body.{Body}
 use Rattle.model.specs.declared.micro.DbMicro.{DbMicro}
@@ -17,4 +17,4 @@ returns c =
     ∙ ap₂ (λ (l : List Body) (k : List ℤ). predict_of d (s.params.settings.r ⊗ s.params.settings.r) l k c.args.x.now)
     (bodies_are (λ (m : DbMicro). m.body) (cut_to d) s.params.settings.dim (λ m. refl) c.held.result.now
     ∙ ap (λ (ms : List DbMicro). map (λ (m : DbMicro). m.body) (map (cut_to d) ms)) c.held.ensures.value)
-    c.labels_told.ensures
+    (search rules)

@@ -54,7 +54,8 @@ pub examples :
     (connectivity_of (resting (whole 3)) first second ≡ gives half)
     × (connectivity_of (resting (whole 4)) first second ≡ gives half)
     × (connectivity_of (resting (whole 5)) first second ≡ gives half)
-    -- "A pair whose mean faded weight is 0 reads 0.": of weights 0, rounded from 2^−1075, and of weights that have faded by 2^−1088, which two to the y gives as 0
+    -- "A pair whose mean faded weight is 0 reads 0.": of weights 0, rounded from 2^−1075, and of weights that have faded by 2^−1088,
+    -- which two to the y gives as 0
     × (connectivity_of (weighing nought nought one nought) first second ≡ gives nought)
     × (connectivity_of (weighing (fin false 1 (negsuc 1073)) nought one nought) first second ≡ gives nought)
     × (connectivity_of (weighing one one (whole 64) (whole 17)) first second ≡ gives nought)

@@ -1,5 +1,5 @@
 -- `try_predict` meets its contract. Assumes nothing.
-use Rattle.std.proofs.Common.{refl, ap, ap₂, ◌∙◌, List, ℤ, min, map}
+use Rattle.std.proofs.Common.{rules, refl, ap, ap₂, ◌∙◌, List, ℤ, min, map}
 use Rattle.feature.specs.Feature.{max_dim}
 use Rattle.model.specs.declared.body.Body.{Body}
 use Rattle.model.specs.declared.micro.DenMicro.{DenMicro}
@@ -18,4 +18,4 @@ returns c =
     ∙ ap₂ (λ (l : List Body) (k : List ℤ). predict_of d s.params.eps2 l k c.args.x.now)
     (bodies_are (λ (m : DenMicro). m.body) (micro_in d) s.params.settings.dim (λ m. refl) c.potential.result.now
     ∙ ap (λ (ms : List DenMicro). map (λ (m : DenMicro). m.body) (map (micro_in d) ms)) c.potential.ensures)
-    c.labels_told.ensures
+    (search rules)

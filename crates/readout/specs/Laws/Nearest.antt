@@ -84,9 +84,15 @@ module _ {A : Type 0} (distance : A → Float) where
   found_or f None = f
   found_or f (Some g) = g
 
-  found_some : (o : Option (Near A)) (p : ℕ) (d : Float) → found_of o ≡ Some (record { place = p; dist = d }) → (m : A) × (o ≡ some (record { place = p; micro = m; dist = d }))
+  found_some :
+      (o : Option (Near A)) (p : ℕ) (d : Float) → found_of o ≡ Some (record { place = p; dist = d }) →
+      (m : A) × (o ≡ some (record { place = p; micro = m; dist = d }))
   found_some none p d e = let z : ◌≡◌ {A = ℕ} 0 1 = cc in absurd (omega arith)
-  found_some (some b) p d e = (b.micro, let f : Found = record { place = p; dist = d } in let u : b.place ≡ p = ap (λ (q : prelude.Option Found). (found_or f q).place) e in let v : b.dist ≡ d = ap (λ (q : prelude.Option Found). (found_or f q).dist) e in rw (u, v))
+  found_some (some b) p d e =
+      let f : Found = record { place = p; dist = d } in
+      let u : b.place ≡ p = ap (λ (q : prelude.Option Found). (found_or f q).place) e in
+      let v : b.dist ≡ d = ap (λ (q : prelude.Option Found). (found_or f q).dist) e in
+      (b.micro, rw (u, v))
 
   -- the nearest of the list stands at that place and distance
   pub record FoundAt (l : List A) (place : ℕ) (dist : Float) : Type 0 where
@@ -94,7 +100,9 @@ module _ {A : Type 0} (distance : A → Float) where
     pub is : (z : A) → nearest_of distance l ≡ some (record { place = place; micro = get_or l place z; dist = dist })
 
   -- a place found is the nearest one's
-  pub found_at : (l : List A) (place : ℕ) (dist : Float) → found_of (nearest_of distance l) ≡ Some (record { place = place; dist = dist }) → FoundAt l place dist
+  pub found_at :
+      (l : List A) (place : ℕ) (dist : Float) → found_of (nearest_of distance l) ≡ Some (record { place = place; dist = dist }) →
+      FoundAt l place dist
   found_at l place dist e =
       let w = found_some (nearest_of distance l) place dist e in
       let q = nearest_stands l (record { place = place; micro = w.0; dist = dist }) w.1 in

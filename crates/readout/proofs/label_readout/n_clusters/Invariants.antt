@@ -1,9 +1,6 @@
-use Rattle.std.proofs.Common.{◌≡◌, ◌+◌, ◌≤◌, length}
+use Rattle.std.proofs.Common.{◌≡◌, ◌+◌, ◌≤◌, drop}
 use Rattle.model.specs.ReadOut.{clusters_in}
 use Rattle.readout.proofs.label_readout.n_clusters.Given as goal
 
-abbrev pub invariant-loop-label : goal.invariant-loop-label
-invariant-loop-label l = (l.n + length l.rest ≤ length l.labels) × (l.n + clusters_in l.rest ≡ clusters_in l.labels)
-
-abbrev pub decreases-loop-label : goal.decreases-loop-label
-decreases-loop-label l = length l.rest
+abbrev pub invariant-loop-i : goal.invariant-loop-i
+invariant-loop-i l = (l.n ≤ l.i) × (l.n + clusters_in (drop l.i l.labels) ≡ clusters_in l.labels)
