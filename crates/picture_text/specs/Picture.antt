@@ -1,11 +1,11 @@
 -- The text that `picture` prints for an input. Definitions only.
-use Rattle.std.specs.Prelude.{ℕ, min, cond, List, eqb, length, replicate}
+use Rattle.std.specs.Prelude.{ℕ, min, cond, List, eqb, negsuc, length, replicate}
 use Rattle.float.specs.Rounded.{nought}
 use Rattle.drift.specs.Monitor.{report_of}
 use Rattle.model.specs.Limits.{micros_most}
 use Rattle.model.specs.ReadOut.{Statistics}
 use Rattle.model.specs.DbState.{State}
-use Rattle.model.specs.Dbstream.{cluster_of, statistics_of}
+use Rattle.model.specs.Dbstream.{cluster_of, labels_read_of, statistics_of}
 use Rattle.text.specs.Ascii.{ascii}
 use Rattle.text.specs.Refusal.{refused_line}
 use Rattle.input_session.specs.Session.{Ran, ran_of}
@@ -19,7 +19,7 @@ figures_of s = statistics_of s (replicate 192 nought) (replicate micros_most nou
 unfoldable pub drawn_of : State → List ℕ
 drawn_of s =
     page_of (min (length s.held.micros) micros_most) (figures_of (cluster_of s)).centres (figures_of (cluster_of s)).weights
-    (cluster_of s).labels
+    (labels_read_of (cluster_of s) (replicate micros_most (negsuc 0))).labels
     (report_of s.drift).alarms
 
 -- three figures a reading, or no picture

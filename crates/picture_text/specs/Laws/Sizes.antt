@@ -1,5 +1,5 @@
 -- The text of `picture` is never cut. Assumes nothing.
-use Rattle.std.specs.Prelude.{ℕ, ◌+◌, ◌%◌, ◌^◌, ◌≤◌, ◌<◌, min, List, [], ◌∷◌, eqb, length, Float, None, Some, Ok, Err}
+use Rattle.std.specs.Prelude.{ℕ, ◌+◌, ◌%◌, ◌^◌, ◌≤◌, ◌<◌, min, List, [], ◌∷◌, eqb, negsuc, length, replicate, Float, None, Some, Ok, Err}
 use Rattle.std.proofs.Common.{arith}
 use Rattle.float.specs.Rounded.{◌⊘◌}
 use Rattle.sqrt.specs.Root.{sqrt_of}
@@ -10,7 +10,7 @@ use Rattle.model.specs.Outcome.{Opened, Outcome}
 use Rattle.model.specs.Limits.{micros_most}
 use Rattle.model.specs.Stream.{tick_of, taken_of, fresh, insert_by}
 use Rattle.model.specs.DbState.{State, Settings}
-use Rattle.model.specs.Dbstream.{dbstream, open_of, insert_of, cluster_of}
+use Rattle.model.specs.Dbstream.{dbstream, open_of, insert_of, cluster_of, labels_read_of}
 use Rattle.text.specs.Ascii.{ascii}
 use Rattle.text.specs.Text.{room, Within}
 use Rattle.text.specs.Laws.Sizes.{of_either, piece, wider, beside, either, number_within}
@@ -89,7 +89,7 @@ unfolding drawn_of
 drawn_within s h =
     let few : min (length s.held.micros) micros_most ≤ micros_most = omega arith in
     page_within (min (length s.held.micros) micros_most) (figures_of (cluster_of s)).centres (figures_of (cluster_of s)).weights
-    (cluster_of s).labels
+    (labels_read_of (cluster_of s) (replicate micros_most (negsuc 0))).labels
     (report_of s.drift).alarms few h
 
 -- the whole text of every input finds room
