@@ -1,7 +1,9 @@
 -- `n_clusters` meets its contract. Assumes nothing.
 use Rattle.std.proofs.Common.{arith, refl, sym, ◌∙◌, true, false}
 use Rattle.readout.proofs.Counting.{count_step, count_end}
-use Rattle.readout.proofs.label_readout.n_clusters.Goals.{then-same_family+then-not-stands_in, else-same_family, else-same_family-via-then-same_family+else-not-stands_in, else-same_family-via-else-same_family}
+use Rattle.readout.proofs.label_readout.n_clusters.Goals.{then-same_family+then-not-stands_in, else-same_family}
+use Rattle.readout.proofs.label_readout.n_clusters.Goals.{else-same_family-via-then-same_family+else-not-stands_in}
+use Rattle.readout.proofs.label_readout.n_clusters.Goals.{else-same_family-via-else-same_family}
 use Rattle.readout.proofs.label_readout.n_clusters.Goals as goal
 
 pub loop-i-preserved : goal.loop-i-preserved

@@ -7,7 +7,9 @@ use Rattle.model.specs.Limits.{micros_most}
 use Rattle.readout.specs.Seen.{seen}
 use Rattle.readout.proofs.Centres.{means_wide, wide_take}
 use Rattle.readout.proofs.Slices.{Due, first_due, short_centres, short_weights, short_radii, all_written}
-use Rattle.readout.proofs.stats.statistics.Goals.{After-min-width, then-centres-n-via-then-centres-n, then-centres-n-via-else-centres-n+then-weights-n, then-centres-n-via-else-centres-n+else-weights-n+then-radii-n}
+use Rattle.readout.proofs.stats.statistics.Goals.{After-min-width, then-centres-n-via-then-centres-n}
+use Rattle.readout.proofs.stats.statistics.Goals.{then-centres-n-via-else-centres-n+then-weights-n}
+use Rattle.readout.proofs.stats.statistics.Goals.{then-centres-n-via-else-centres-n+else-weights-n+then-radii-n}
 use Rattle.readout.proofs.stats.statistics.Given.{Over}
 use Rattle.readout.proofs.stats.statistics.Goals as goal
 
