@@ -126,9 +126,6 @@ module _ (ids : List MicroId) (strong : List Bool) (lambda t dense : Float) wher
         rw (drop-cons links i z h, j, add-one) in
         record { few = omega (arith, g.few); made = step ∙ g.made }
 
-  pub pair_start : (links : List Link) (ps : List (ℕ × ℕ)) → Pairing links ps 0 0
-  pair_start links ps = record { few = omega arith; made = refl }
-
   -- no link is left
   pub pair_end : (links : List Link) (ps : List (ℕ × ℕ)) (k i : ℕ) → length links ≤ i → Pairing links ps k i → take k ps ≡ joined_by ids strong lambda t dense links
   unfolding joined_by
