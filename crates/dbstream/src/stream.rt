@@ -9,8 +9,9 @@ use model::{DbMicro, DbParams, LINKS, Link, MICROS, MicroId};
 
 // Arrays with counts of what they hold, as document 01 names them: a stream is Copy and is taken and given by value, and an ArrayVec
 // is not Copy. Links stand in the order of their ends' creation numbers.
-// `dim` and `drift` stand in denstream too, and so does what the files here mark: each is over the fields of its own stream, and a
-// trait cannot name a field without a method for it. What both mean is one definition over `Kind`, in model, with one law.
+// `dim` and `drift` stand in denstream too, and so do `new`, `tick`, `cluster` and `try_insert`, as their files say: each is on fields
+// of its own stream, which a trait cannot name without a method for each. What opening, insert, tick and cluster mean is one
+// definition over `Kind`, in model, with its laws.
 #[derive(Clone, Copy)]
 pub struct DbStream {
     pub params: DbParams,
@@ -26,7 +27,7 @@ pub struct DbStream {
 }
 
 impl DbStream {
-    // The coordinates of a point. In denstream too.
+    // The coordinates of a point.
     pub fn dim(&self) -> usize
         ensures { result ≡ (view self.now).params.settings.dim }
     {
@@ -55,7 +56,7 @@ impl DbStream {
         &self.links[..self.link_count.min(LINKS)]
     }
 
-    // The drift monitor's report. In denstream too.
+    // The drift monitor's report.
     pub fn drift(&self) -> DriftReport
         ensures { result ≡ report_of (view self.now).drift }
     {
