@@ -1,5 +1,5 @@
 -- Points taken one by one from their bytes. Assumes nothing.
-use Rattle.std.specs.Prelude.{◌≡◌, ℕ, zero, suc, ◌+◌, ◌*◌, ◌/◌, ◌≤◌, ◌<◌, Bool, false, cond, List, ◌∷◌, ◌++◌, Float, length, drop, refl, Ok, Err}
+use Rattle.std.specs.Prelude.{◌≡◌, ℕ, zero, suc, ◌+◌, ◌*◌, ◌/◌, ◌≤◌, ◌<◌, Bool, cond, List, ◌∷◌, ◌++◌, Float, length, drop, refl, Ok, Err}
 use Rattle.std.proofs.Common.{arith, sym, ap, ap₂, ◌∙◌, drop_at, get_or-drop, length-append, add-one}
 use Rattle.std.proofs.Math.ListN.{get_or-append}
 use Rattle.std.proofs.Math.Nat.{add-div_right, div-eq_of_lt}
@@ -7,7 +7,7 @@ use Rattle.std.specs.Float.{binary64}
 use Rattle.std.specs.Float.Ieee.{of_bits}
 use Rattle.words.specs.Word.{little_endian}
 use Rattle.model.specs.declared.answers.InsertError.{InsertError}
-use Rattle.model.specs.declared.answers.InsertError.TheVariants.{Shape, ClockAtLimit, NoPlace}
+use Rattle.model.proofs.Laws.Numbers.{error_refuses}
 use Rattle.model.specs.Answers.{is_done, Insertion}
 use Rattle.model.specs.Outcome.{Outcome}
 use Rattle.model.specs.DbState.{State}
@@ -69,11 +69,6 @@ pub none_left : (dim : ℕ) (bytes : List ℕ) (s : State) → length bytes < di
 unfolding insert_all points_from
 none_left dim bytes s h = ap (λ (k : ℕ). insert_all s (points_from k dim bytes 0)) (div-eq_of_lt h)
 
-not_done : (e : InsertError) → is_done (Err e) ≡ false
-not_done (Shape e) = refl
-not_done ClockAtLimit = refl
-not_done NoPlace = refl
-
 -- the next point gives o
 module _
     (dim : ℕ) (some : 1 ≤ dim) (bytes x rest : List ℕ) (parts : bytes ≡ x ++ rest) (whole : length x ≡ dim * 8) (s : State) (y : List Float)
@@ -97,4 +92,4 @@ module _
     goes_on z = sym (told ∙ ap (λ (a : Insertion). cond (is_done a) (insert_all o.stream (points dim rest)) o) z)
 
     pub stops : (r : InsertError) → o.answer ≡ Err r → o ≡ insert_all s (points dim bytes)
-    stops r z = sym (told ∙ ap (λ (b : Bool). cond b (insert_all o.stream (points dim rest)) o) (ap is_done z ∙ not_done r))
+    stops r z = sym (told ∙ ap (λ (b : Bool). cond b (insert_all o.stream (points dim rest)) o) (ap is_done z ∙ error_refuses r))
