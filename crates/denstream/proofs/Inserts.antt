@@ -10,9 +10,9 @@ use Rattle.std.proofs.lemmas.List.{take_all}
 use Rattle.std.specs.Prelude.{Option, None, Some, Ok, Err, ◌==◌}
 use Rattle.std.specs.Option.{is_some}
 use Rattle.model.specs.Answers.{is_done, Insertion}
-use Rattle.model.specs.Questions.{first_no, insertion_asked}
+use Rattle.model.specs.Questions.{first_no, other_length, insertion_asked}
 use Rattle.model.specs.Limits.{clock_limit}
-use Rattle.model.specs.declared.answers.InsertError.TheVariants.{Shape, ClockAtLimit, NoPlace}
+use Rattle.model.specs.declared.answers.InsertError.TheVariants.{ClockAtLimit, NoPlace}
 use Rattle.model.specs.Laws.Insert.{taken_asks}
 use Rattle.model.proofs.Laws.Stream.{inserted_by}
 use Rattle.model.specs.declared.micro.DenMicro.{DenMicro}
@@ -56,8 +56,8 @@ module _ (dim got : ℕ) (t : Float) (place : Bool) (a : Insertion) (ea : a ≡ 
   refuses h = go (got == dim) (lt t clock_limit) ea
     where
       go :
-          (b c : Bool) → a ≡ first_no ((b, Err (Shape dim got)) ∷ (c, Err ClockAtLimit) ∷ (true, Err NoPlace) ∷ []) (Ok tt) →
-          a ≡ first_no ((b, Err (Shape dim got)) ∷ (c, Err ClockAtLimit) ∷ (place, Err NoPlace) ∷ []) (Ok tt)
+          (b c : Bool) → a ≡ first_no ((b, Err (other_length dim got)) ∷ (c, Err ClockAtLimit) ∷ (true, Err NoPlace) ∷ []) (Ok tt) →
+          a ≡ first_no ((b, Err (other_length dim got)) ∷ (c, Err ClockAtLimit) ∷ (place, Err NoPlace) ∷ []) (Ok tt)
       go false c e = e
       go true false e = e
       go true true e = absurd (true≢false (sym (ap is_done e) ∙ h))
@@ -66,8 +66,8 @@ module _ (dim got : ℕ) (t : Float) (place : Bool) (a : Insertion) (ea : a ≡ 
   decides h = go (got == dim) (lt t clock_limit) ea
     where
       go :
-          (b c : Bool) → a ≡ first_no ((b, Err (Shape dim got)) ∷ (c, Err ClockAtLimit) ∷ (true, Err NoPlace) ∷ []) (Ok tt) →
-          ◌≡◌ {A = Insertion} (first_no ((b, Err (Shape dim got)) ∷ (c, Err ClockAtLimit) ∷ (place, Err NoPlace) ∷ []) (Ok tt))
+          (b c : Bool) → a ≡ first_no ((b, Err (other_length dim got)) ∷ (c, Err ClockAtLimit) ∷ (true, Err NoPlace) ∷ []) (Ok tt) →
+          ◌≡◌ {A = Insertion} (first_no ((b, Err (other_length dim got)) ∷ (c, Err ClockAtLimit) ∷ (place, Err NoPlace) ∷ []) (Ok tt))
           (cond place (Ok tt) (Err NoPlace))
       go false c e = absurd (true≢false (sym h ∙ ap is_done e))
       go true false e = absurd (true≢false (sym h ∙ ap is_done e))

@@ -44,7 +44,7 @@ fn cut(y: f64) -> f64
     y
 }
 
-// 2 to the power -c, by its biased exponent.
+// 2 to the power -c, made of its bits: std has no power of two that is known to be exact.
 fn power_down(c: u64) -> f64
     requires { c ≤ 1022 }
     ensures { result ≡ minus_power c }

@@ -8,8 +8,9 @@ ghost use Rattle.model.specs.Told.{opened_told, inserted_told};
 use crate::answers::{InsertError, OpenError};
 use drift::DriftReport;
 
-// The answer, and the stream. No Result with the stream in it: the document gives a stream back in each answer, beside a refusal one that was
-// never opened.
+// The answer, and the stream. No Result with the stream in it: the document gives a stream back in each answer, beside a refusal one
+// that was never opened. Opened, Inserted and the sessions' answers are types of their own: each is what one call gives back, and the
+// contracts tell them apart.
 #[derive(Clone, Copy)]
 pub struct Opened<S> {
     pub answer: Result<(), OpenError>,
