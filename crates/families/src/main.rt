@@ -1,4 +1,4 @@
-// Reads an input from standard input and prints its families.
+// Reads an input from standard input and prints its families. As `picture`, but for the function and its room.
 #![tactic(auto)]
 
 use words::Output;

@@ -59,7 +59,7 @@ impl Settings {
     }
 }
 
-// What `families` prints for an input, under its heading.
+// What `families` prints for an input, under its heading. As in `picture_cases`, but for the function and its room.
 fn show(heading: &str, input: &[u8]) {
     let mut output = io::buffer();
     let _headed = println!(Output; "{heading}:");

@@ -12,7 +12,7 @@ ghost use Rattle.input_session.specs.Told.{ran_told};
 use dbstream::DbStream;
 pub use refusal::Refusal;
 
-// The first refusal, and the stream as far as it came.
+// The first refusal, and the stream as far as it came. Not session's `Session<S>`: its refusals are others, and contracts tell them apart.
 #[derive(Clone, Copy)]
 pub struct Session {
     pub answer: Result<(), Refusal>,

@@ -50,7 +50,7 @@ pub(crate) fn settings(bytes: &[u8]) -> DbSettings
     }
 }
 
-// A point in its bytes, in the first dim elements.
+// A point in its bytes, in the first dim elements. The bound is asked here and in run.rt's `insert_all` alone, too little for a type.
 pub(crate) fn point(bytes: &[u8], dim: usize) -> [f64; MAX_DIM]
     requires { (dim ≤ 15) × (dim * 8 ≤ length bytes.now) }
     ensures { take dim result ≡ doubles_from dim bytes.now 0 }

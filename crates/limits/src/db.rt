@@ -32,6 +32,7 @@ impl Taker for DbStream {
 }
 
 // A stream of dim 1 and radius 1 takes the points `early`; then its clock is t and its next creation number `next`, and it takes `late`.
+// DenStream's has settings and fields of its own.
 fn tried(
     rt: &impl Print,
     lambda: f64,

@@ -31,7 +31,7 @@ fn failing() {
     show("a read that fails", &room[..n]);
 }
 
-// What is no number has one form.
+// What is no number has one form. sample_session has its own, which writes 0 there and has a contract.
 fn add_double(input: &mut Text, x: f64) {
     let bits = if x.is_nan() {
         0x7ff8_0000_0000_0000

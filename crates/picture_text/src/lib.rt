@@ -38,7 +38,8 @@ fn drawn(stream: DbStream) -> Text
     text
 }
 
-// A refusal is all that is printed; so is that another dim has no picture.
+// A refusal is all that is printed; so is that another dim has no picture. families_text begins likewise; what both share is in
+// input_session and in text's `refused`.
 fn text_of(input: &[u8]) -> Text
     ensures { text_of result ≡ picture_text input.now }
 {

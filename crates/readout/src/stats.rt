@@ -11,7 +11,8 @@ ghost use Rattle.readout.specs.Told.{statistics_told};
 use feature::MAX_DIM;
 use model::{Body, MICROS, Micro, TooShort};
 
-// The means' first coordinates, one mean after another. That each mean has its 15 places is known of an array's elements, and asked of a slice's.
+// The means' first coordinates, one mean after another. That each mean has its 15 places is known of an array's elements, and asked of a
+// slice's. The room is asked here alone, of a private function: `statistics` has asked the slices before anything is written.
 fn write_centres(bodies: &[Body], width: usize, out: &mut [f64])
     requires wide { All (λ b. length b.cf.mean ≡ max_dim) bodies.now }
     requires room { (width ≤ max_dim) × (length bodies.now * width ≤ length out.old) }

@@ -5,7 +5,8 @@ use adwin::{Adwin, Verdict};
 use std::io;
 use words::Bits;
 
-// One value more in the window that is lent; the streams update theirs by value.
+// One value more in the window that is lent; the streams update theirs by value. The words stand in `limits` too: the crate of the
+// window has no texts.
 fn update(rt: &impl Print, window: &mut Adwin, value: f64) -> io::Result<()> {
     match adwin_lent::update(window, value) {
         Ok(Verdict::Quiet) => println!(rt; "quiet"),

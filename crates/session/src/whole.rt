@@ -11,7 +11,7 @@ ghost use Rattle.session.specs.Told.{told};
 use crate::refusal::Refusal;
 use model::{Inserted, OpenError, Opened, Stream, TooShort};
 
-// Whether the run was refused, and the stream.
+// Whether the run was refused, and the stream. A type of its own beside model's `Opened` and `Inserted`: contracts tell them apart.
 #[derive(Clone, Copy)]
 pub struct Session<S> {
     pub answer: Result<(), Refusal>,

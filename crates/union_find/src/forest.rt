@@ -173,7 +173,8 @@ impl UnionFind {
     }
 }
 
-// The forest after the pairs were joined in order, chained already or not.
+// The forest after the pairs were joined in order, chained already or not. n stays a number with its bound, here and in `join`: it is
+// the length of the caller's slice, cut to the places in `roots`.
 fn joined(pairs: &[(usize, usize)], n: usize) -> Joins
     requires { n ≤ places }
     ensures { result ≡ joins_by (join_all n new_of pairs.now) (joins_steps n new_of pairs.now) }

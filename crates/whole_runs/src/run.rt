@@ -18,7 +18,7 @@ fn clustered<S: Stream>(stream: S, rounds: u64) -> S
     last
 }
 
-// What the stream says of itself.
+// What the stream says of itself, beside the run's number: a number, since C reads it.
 fn figures_of<S: Stream>(number: u64, stream: &S) -> Figures
     ensures { result ≡ figures_in S.kind number (S.view stream.now) }
 {
