@@ -1,3 +1,2 @@
 -- What the proofs of words share.
-pub mod Hexed
 mod Padded

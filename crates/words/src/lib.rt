@@ -6,5 +6,5 @@ mod text;
 mod word;
 
 pub use output::Output;
-pub use text::Bits;
+pub use text::{Bits, double_text};
 pub use word::{double_of, word_at};
