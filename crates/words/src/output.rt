@@ -47,7 +47,7 @@ impl Print for Output {
         ensures { result ≡ Ok tt }
     {
         let mut f = Formatter::new(Waiting::new());
-        let _written = f.write(&value);
+        let _printed = f.write(&value);
         f.into_inner().flush();
         Ok(())
     }
