@@ -5,10 +5,12 @@ use adwin::{Adwin, Verdict};
 use std::io;
 use words::Bits;
 
-// One value more in the window that is lent; the streams update theirs by value. The words stand in `limits` too: the crate of the
-// window has no texts.
+// One value more, by the update of a lent window, which `updated` lends its own; the streams update theirs without it. The words stand in
+// `limits` too: the crate of the window has no texts.
 fn update(rt: &impl Print, window: &mut Adwin, value: f64) -> io::Result<()> {
-    match adwin_lent::update(window, value) {
+    let after = adwin_lent::updated(*window, value);
+    *window = after.window;
+    match after.answer {
         Ok(Verdict::Quiet) => println!(rt; "quiet"),
         Ok(Verdict::Alarm) => println!(rt; "alarm"),
         Err(error) => say_refused(rt, error),
