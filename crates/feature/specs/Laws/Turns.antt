@@ -13,6 +13,22 @@ use Rattle.float.specs.Rounded.{◌⊕◌, ◌⊖◌, ◌⊗◌}
 use Rattle.feature.specs.Distance.{sum_from}
 use Rattle.feature.specs.Feature.{moved}
 
+-- a turn of the distance, and its end
+module _ (n i : ℕ) (a b : List Float) (s : Float) where
+  pub sum_step :
+      i < n →
+      n ≤ length a →
+      n ≤ length b →
+      sum_from (s ⊕ (get_or a i nan ⊖ get_or b i nan) ⊗ (get_or a i nan ⊖ get_or b i nan)) (rest n (i + 1) a) (rest n (i + 1) b)
+      ≡ sum_from s (rest n i a) (rest n i b)
+  unfolding sum_from
+  sum_step h la lb = rw (rest_step n i a nan, rest_step n i b nan)
+
+  -- no coordinate is left
+  pub sum_end : n ≤ i → sum_from s (rest n i a) (rest n i b) ≡ s
+  unfolding sum_from
+  sum_end h = rw (rest_end n i a)
+
 -- no coordinate is left of one of the points
 pub sum_none_left : (s : Float) (xs ys : List Float) → length xs ≡ 0 → s ≡ sum_from s xs ys
 unfolding sum_from
