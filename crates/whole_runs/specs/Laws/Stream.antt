@@ -2,6 +2,7 @@
 use Rattle.std.specs.Prelude.{ℕ, zero, suc, ◌+◌, ◌≡◌, refl, List, Float}
 use Rattle.std.proofs.Common.{arith, ap, ◌∙◌}
 use Rattle.lists.specs.Laws.Maps.{map_length}
+use Rattle.drift.specs.declared.DriftReport.{DriftReport}
 use Rattle.drift.specs.Monitor.{report_of}
 use Rattle.model.specs.declared.micro.DbMicro.{DbMicro}
 use Rattle.model.specs.declared.micro.DenMicro.{DenMicro}
@@ -9,7 +10,6 @@ use Rattle.model.specs.DbState as db
 use Rattle.model.specs.Dbstream.{dbstream}
 use Rattle.model.specs.DenState as den
 use Rattle.model.specs.Denstream.{denstream}
-use Rattle.model.specs.ReadOut.{clusters_in}
 use Rattle.model.specs.Stream.{State, Kind, open_of, insert_of, cluster_of}
 use Rattle.session.specs.Whole.{Session, session_of}
 use Rattle.whole_runs.specs.declared.figures.Figures.{Figures}
@@ -22,12 +22,22 @@ unfolding iterate
 iterate_more f zero a = refl
 iterate_more f (suc n) a = let e : suc n + 1 ≡ suc (n + 1) = omega arith in rw e (iterate_more f n (f a))
 
+pub same_figures :
+    (number micros micros' families families' : ℕ) (report report' : DriftReport) →
+    micros ≡ micros' →
+    families ≡ families' →
+    report ≡ report' →
+    figures number micros families report ≡ figures number micros' families' report'
+same_figures number micros micros' families families' report report' em ef er = rw (em, ef, er)
+
 -- a stream read out by its kind, and as it is named
 db_figures : (number : ℕ) (s : db.State) → figures_in dbstream number s ≡ dbstream_figures number s
-db_figures number s = ap (λ (n : ℕ). figures number n (clusters_in s.labels) (report_of s.drift)) (map_length (λ (m : DbMicro). m.body) s.held.micros)
+db_figures number s =
+    let report = report_of s.drift in same_figures number _ _ _ _ report report (map_length (λ (m : DbMicro). m.body) s.held.micros) refl refl
 
 den_figures : (number : ℕ) (s : den.State) → figures_in denstream number s ≡ denstream_figures number s
-den_figures number s = ap (λ (n : ℕ). figures number n (clusters_in s.labels) (report_of s.drift)) (map_length (λ (m : DenMicro). m.body) s.held.potential)
+den_figures number s =
+    let report = report_of s.drift in same_figures number _ _ _ _ report report (map_length (λ (m : DenMicro). m.body) s.held.potential) refl refl
 
 module _
     {S P H : Type 0} (k : Kind S P H) (read : ℕ → State P H → Figures) (same : (number : ℕ) (s : State P H) → figures_in k number s ≡ read number s) (p : S)
