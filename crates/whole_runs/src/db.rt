@@ -5,12 +5,11 @@ ghost use Rattle.whole_runs.specs.Told.{told};
 ghost use Rattle.whole_runs.specs.Streams.{dbstream_run};
 
 use crate::figures::Figures;
-use crate::run::run;
-use dbstream::DbStream;
+use crate::run::told_after;
 use model::DbSettings;
 
 // The run of `session`, clustered so many times more; `numbers` gets 0 or the refusal's number of each insert.
-// The settings come one by one, as C passes them.
+// By `dbstream_session`, which promises demand 3 of its stream. The settings come one by one, as C passes them.
 pub fn dbstream_run(
     dim: usize,
     r: f64,
@@ -33,5 +32,8 @@ pub fn dbstream_run(
         alpha,
         min_weight,
     };
-    run::<DbStream>(settings, values, lengths, rounds, numbers)
+    told_after(
+        session::dbstream_session(settings, values, lengths, numbers),
+        rounds,
+    )
 }

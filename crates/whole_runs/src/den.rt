@@ -5,12 +5,11 @@ ghost use Rattle.whole_runs.specs.Told.{told};
 ghost use Rattle.whole_runs.specs.Streams.{denstream_run};
 
 use crate::figures::Figures;
-use crate::run::run;
-use denstream::DenStream;
+use crate::run::told_after;
 use model::DenSettings;
 
 // The run of `session`, clustered so many times more; `numbers` gets 0 or the refusal's number of each insert.
-// The settings come one by one, as C passes them.
+// By `denstream_session`, which promises demand 3 of its stream. The settings come one by one, as C passes them.
 pub fn denstream_run(
     dim: usize,
     eps: f64,
@@ -33,5 +32,8 @@ pub fn denstream_run(
         beta,
         mu,
     };
-    run::<DenStream>(settings, values, lengths, rounds, numbers)
+    told_after(
+        session::denstream_session(settings, values, lengths, numbers),
+        rounds,
+    )
 }

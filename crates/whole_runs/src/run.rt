@@ -1,11 +1,12 @@
-// A whole run of any stream in plain numbers.
+// What a whole run of any stream tells in plain numbers.
 ghost use Rattle.std.specs.Prelude.{◌≡◌};
 ghost use Rattle.model.specs.Stream.{cluster_of};
-ghost use Rattle.session.specs.Points.{points_of};
-ghost use Rattle.whole_runs.specs.Told.{iterate, figures_in, told, run_told};
+ghost use Rattle.session.specs.Refused.{run_number};
+ghost use Rattle.whole_runs.specs.Told.{iterate, figures_in};
 
 use crate::figures::Figures;
 use model::Stream;
+use session::Session;
 
 // Clustered so many times more.
 fn clustered<S: Stream>(stream: S, rounds: u64) -> S
@@ -33,17 +34,10 @@ fn figures_of<S: Stream>(number: u64, stream: &S) -> Figures
     }
 }
 
-// The run of `session`, clustered so many times more; `numbers` gets 0 or the refusal's number of each insert.
-pub(crate) fn run<S: Stream + Drop>(
-    settings: S::Settings,
-    values: &[f64],
-    lengths: &[usize],
-    rounds: u64,
-    numbers: &mut [u64],
-) -> Figures
-    ensures { told result numbers.new ≡ run_told S.kind (figures_in S.kind) settings (points_of lengths.now values.now) rounds numbers.old }
+// The figures of a run of `session`, its stream clustered so many times more.
+pub(crate) fn told_after<S: Stream + Drop>(run: Session<S>, rounds: u64) -> Figures
+    ensures { result ≡ figures_in S.kind (run_number run.answer) (iterate (cluster_of S.kind) rounds (S.view run.stream)) }
 {
-    let run = session::whole_run::<S>(settings, values, lengths, numbers);
     let number = model::number_of(run.answer);
     let last = clustered(run.stream, rounds);
     figures_of(number, &last)
