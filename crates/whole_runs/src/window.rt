@@ -2,7 +2,7 @@
 ghost use Rattle.std.specs.Prelude.{◌≡◌};
 ghost use Rattle.whole_runs.specs.Window.{window_run};
 
-use adwin::Adwin;
+use adwin::{Adwin, Updated};
 
 // The updates that rang, and the window after all of them: the values it took, its width, mean and variance.
 #[repr(C)]
@@ -22,9 +22,12 @@ pub fn window_run(delta: f64, values: &[f64]) -> WindowFigures
     let mut window = Adwin::new(delta);
     let mut alarms = 0;
     for value in values {
-        let updated = window.update(*value);
-        window = updated.window;
-        alarms += u64::from(updated.rings());
+        let Updated {
+            answer,
+            window: after,
+        } = window.update(*value);
+        window = after;
+        alarms += u64::from(adwin::rings(&answer));
     }
     WindowFigures {
         alarms,

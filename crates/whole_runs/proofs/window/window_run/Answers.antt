@@ -20,7 +20,7 @@ pub loop-value-preserved : goal.loop-value-preserved
 loop-value-preserved c =
     let a = c.args in
     let l = c.loop-value in
-    let u = c.update-updated in
+    let u = c.update-answer in
     going_on a.values.now (new_of a.delta) (view l.window) (view u.result.window) l.alarms l.value-index c.from-alarms.result _
     l.invariant c.loop-value-test.true
     (ap (λ (o : Outcome). o.window) u.ensures.result_value)
