@@ -25,7 +25,7 @@ pub struct Trial {
 pub fn try_merge(pool: &[DenMicro], params: &DenParams, t: f64, x: &[f64]) -> Trial
     ensures { trial_told (length x.now) result ≡ tried_of params.now t x.now (map (micro_in (length x.now)) pool.now) }
 {
-    let nearest = readout::nearest(pool, |m| feature::sq_euclidean(&m.body.cf.mean, x));
+    let nearest = readout::nearest_by(pool, |m| feature::sq_euclidean(&m.body.cf.mean, x));
     let Some(found) = nearest else {
         return Trial {
             near: None,

@@ -1,8 +1,8 @@
-// The nearest of a list, by a distance that the caller measures.
+// The nearest of a list, by a distance that the caller measures, or by distances that it measured before.
 ghost use Rattle.std.specs.Prelude.{◌≡◌, Float};
 ghost use Rattle.lists.specs.Retain.{AnswersBy};
 ghost use Rattle.model.specs.Nearest.{nearest_of};
-ghost use Rattle.readout.specs.Found.{found_of};
+ghost use Rattle.readout.specs.Found.{found_of, nearest_among};
 
 // Where the nearest stands, and how far it is.
 #[derive(Clone, Copy)]
@@ -12,7 +12,7 @@ pub struct Found {
 }
 
 // Takes a smaller distance only: ties keep the lower place and a NaN met first stays.
-pub fn nearest<M, F: Fn(&M) -> f64>(items: &[M], distance: F) -> Option<Found>
+pub fn nearest_by<M, F: Fn(&M) -> f64>(items: &[M], distance: F) -> Option<Found>
     requires { F.IsAlwaysCallable distance }
     ensures { (d : M → Float) → AnswersBy F.Fn distance d → result ≡ found_of (nearest_of d items.now) }
 {
@@ -28,4 +28,11 @@ pub fn nearest<M, F: Fn(&M) -> f64>(items: &[M], distance: F) -> Option<Found>
         }
     }
     Some(found)
+}
+
+// Of the distances themselves, whatever they were measured of.
+pub fn nearest(distances: &[f64]) -> Option<Found>
+    ensures { result ≡ nearest_among distances.now }
+{
+    nearest_by(distances, |d| *d)
 }

@@ -7,7 +7,7 @@ mod label_readout;
 mod prediction;
 mod stats;
 
-pub use distances::{Found, nearest};
+pub use distances::{Found, nearest, nearest_by};
 pub use label_readout::{n_clusters, read_labels};
 pub use prediction::predict;
 pub use stats::statistics;

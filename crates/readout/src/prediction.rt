@@ -5,7 +5,7 @@ ghost use Rattle.model.specs.Answers.{prediction_said};
 ghost use Rattle.model.specs.ReadOut.{label_for, predict_of};
 ghost use Rattle.readout.specs.Seen.{seen};
 
-use crate::distances::nearest;
+use crate::distances::nearest_by;
 use feature::MAX_DIM;
 use model::{Micro, ShapeError};
 
@@ -22,7 +22,7 @@ fn label_for<M: Micro>(
     if labels.len() != micros.len() {
         return None;
     }
-    let found = nearest(micros, |m| m.body().distance(x, dim))?;
+    let found = nearest_by(micros, |m| m.body().distance(x, dim))?;
     if found.dist <= radius2 {
         labels.get(found.place).copied()
     } else {

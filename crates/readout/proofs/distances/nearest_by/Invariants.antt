@@ -3,7 +3,7 @@ use Rattle.lists.specs.Retain.{AnswersBy}
 use Rattle.model.specs.Nearest.{nearest_of}
 use Rattle.readout.specs.Found.{found_of}
 use Rattle.readout.proofs.Search.{found_from}
-use Rattle.readout.proofs.distances.nearest.Given as goal
+use Rattle.readout.proofs.distances.nearest_by.Given as goal
 
 -- what the rest makes of the nearest so far is the nearest of all
 abbrev pub invariant-loop-i : goal.invariant-loop-i
