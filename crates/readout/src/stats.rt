@@ -56,7 +56,10 @@ pub fn statistics<M: Micro>(
     let bodies = &all[..micros.len().min(MICROS)];
     let width = dim.min(MAX_DIM);
     let n = bodies.len();
-    if centres.len() < n * width || weights.len() < n || radii.len() < n {
+    let centres_short = centres.len() < n * width;
+    let weights_short = weights.len() < n;
+    let radii_short = radii.len() < n;
+    if centres_short || weights_short || radii_short {
         return Err(TooShort);
     }
     write_centres(bodies, width, centres);

@@ -7,9 +7,9 @@ use Rattle.model.specs.Limits.{micros_most}
 use Rattle.readout.specs.Seen.{seen}
 use Rattle.readout.proofs.Centres.{means_wide, wide_take}
 use Rattle.readout.proofs.Slices.{Due, first_due, short_centres, short_weights, short_radii, all_written}
-use Rattle.readout.proofs.stats.statistics.Goals.{After-min-width, then-centres-n-via-then-centres-n}
-use Rattle.readout.proofs.stats.statistics.Goals.{then-centres-n-via-else-centres-n+then-weights-n}
-use Rattle.readout.proofs.stats.statistics.Goals.{then-centres-n-via-else-centres-n+else-weights-n+then-radii-n}
+use Rattle.readout.proofs.stats.statistics.Goals.{After-min-width, then-centres_short-via-then-centres_short}
+use Rattle.readout.proofs.stats.statistics.Goals.{then-centres_short-via-else-centres_short+then-weights_short}
+use Rattle.readout.proofs.stats.statistics.Goals.{then-centres_short-via-else-centres_short+else-weights_short+then-radii_short}
 use Rattle.readout.proofs.stats.statistics.Given.{Over}
 use Rattle.readout.proofs.stats.statistics.Goals as goal
 
@@ -25,16 +25,16 @@ due g c =
           (omega arith) (all.ensures g.M.Micro.body_of (λ m b k. search rules));
     }
 
-pub returns-then-centres-n : goal.returns-then-centres-n
-returns-then-centres-n g c =
+pub returns-then-centres_short : goal.returns-then-centres_short
+returns-then-centres_short g c =
     let a = c.args in
-    let q = due g (goal.at.returns-then-centres-n g c).After-min-width in
-    elim c.then-centres-n.branch [
-      | then-centres-n-via-then-centres-n w ↦ short_centres a.lambda a.t q a.centres.now a.weights.now a.radii.now w.if-centres-n.true
-      | then-centres-n-via-else-centres-n+then-weights-n w ↦
-          short_weights a.lambda a.t q a.centres.now a.weights.now a.radii.now w.if-centres-n.false w.if-weights-n.true
-      | then-centres-n-via-else-centres-n+else-weights-n+then-radii-n w ↦
-          short_radii a.lambda a.t q a.centres.now a.weights.now a.radii.now w.if-centres-n.false w.if-weights-n.false w.if-radii-n.true
+    let q = due g (goal.at.returns-then-centres_short g c).After-min-width in
+    elim c.then-centres_short.branch [
+      | then-centres_short-via-then-centres_short w ↦ short_centres a.lambda a.t q a.centres.now a.weights.now a.radii.now w.if-centres_short.true
+      | then-centres_short-via-else-centres_short+then-weights_short w ↦
+          short_weights a.lambda a.t q a.centres.now a.weights.now a.radii.now w.if-centres_short.false w.if-weights_short.true
+      | then-centres_short-via-else-centres_short+else-weights_short+then-radii_short w ↦
+          short_radii a.lambda a.t q a.centres.now a.weights.now a.radii.now w.if-centres_short.false w.if-weights_short.false w.if-radii_short.true
     ]
 
 pub write_centres-requires-clause-wide : goal.write_centres-requires-clause-wide
@@ -44,5 +44,5 @@ pub returns : goal.returns
 returns g c =
     let a = c.args in
     all_written a.lambda a.t (due g (goal.at.returns g c).After-min-width) a.centres.now a.weights.now a.radii.now
-    c.if-centres-n.false c.if-weights-n.false c.if-radii-n.false _ _ _ c.write_centres.ensures c.write_figures.ensures.weights_after
+    c.if-centres_short.false c.if-weights_short.false c.if-radii_short.false _ _ _ c.write_centres.ensures c.write_figures.ensures.weights_after
     c.write_figures.ensures.radii
