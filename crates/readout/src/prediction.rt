@@ -45,5 +45,7 @@ pub fn predict<M: Micro>(
     if got != expected {
         return Err(ShapeError { expected, got });
     }
-    Ok(label_for(micros, labels, radius2, dim, x).unwrap_or(-1))
+    // In an array, as a mean's coordinates are.
+    let point = model::padded(x);
+    Ok(label_for(micros, labels, radius2, dim, &point[..expected]).unwrap_or(-1))
 }
