@@ -1,5 +1,5 @@
 -- A stream's run in steps: clustered again and again, then read out. Assumes nothing.
-use Rattle.std.specs.Prelude.{ℕ, zero, suc, ◌+◌, ◌≡◌, refl, List, Float}
+use Rattle.std.specs.Prelude.{ℕ, zero, suc, ◌+◌, ◌-◌, ◌≤◌, ◌<◌, ◌≡◌, refl, List, Float}
 use Rattle.std.proofs.Common.{arith, ap, ◌∙◌}
 use Rattle.lists.specs.Laws.Maps.{map_length}
 use Rattle.drift.specs.declared.DriftReport.{DriftReport}
@@ -15,6 +15,18 @@ use Rattle.session.specs.Whole.{Session, session_of}
 use Rattle.whole_runs.specs.declared.figures.Figures.{Figures}
 use Rattle.whole_runs.specs.Told.{iterate, figures, figures_in, told, run_told}
 use Rattle.whole_runs.specs.Streams.{dbstream_figures, dbstream_run, denstream_figures, denstream_run}
+
+-- a loop that counts down to 0, towards `whole`: one turn, and its end
+pub iterate_next :
+    {A : Type 0} (f : A → A) (n : ℕ) (a b : A) {whole : A} → 0 < n → b ≡ f a → iterate f n a ≡ whole → iterate f (n - 1) b ≡ whole
+unfolding iterate
+iterate_next f zero a b h e w = absurd (omega arith)
+iterate_next f (suc n) a b h e w = let m : suc n - 1 ≡ n = omega arith in rw (m, e) w
+
+pub iterate_end : {A : Type 0} (f : A → A) (n : ℕ) (a : A) {whole : A} → n ≤ 0 → iterate f n a ≡ whole → a ≡ whole
+unfolding iterate
+iterate_end f zero a h w = w
+iterate_end f (suc n) a h w = absurd (omega arith)
 
 -- once more, after n times
 pub iterate_more : {A : Type 0} (f : A → A) (n : ℕ) (a : A) → iterate f (n + 1) a ≡ f (iterate f n a)
