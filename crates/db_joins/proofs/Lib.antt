@@ -1,3 +1,3 @@
 -- What the proofs of `src/` cite, on plain lists.
-mod Pairing
-mod Labelling
+pub mod Pairing
+pub mod Labelling
