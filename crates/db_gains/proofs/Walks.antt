@@ -1,33 +1,27 @@
--- The first link that does not stand before a key, and what a gain does there. Assumes nothing.
+-- The first link that does not stand before a key, what a gain does there, and which factor it leaves. Assumes nothing.
 use Rattle.std.proofs.Common.{◌≡◌, ℕ, suc, zero, ◌+◌, ◌-◌, ◌<◌, ◌≤◌, Bool, true, false, cond, refl, sym, ap, subst, ◌∙◌, List, [], ◌∷◌, ◌++◌, length, take, drop, set, get_or, arith, length-append, length-drop, length-take-le, lt-ltb, le-ltb, ap₂, Float}
 use Rattle.std.proofs.Common.{take-append-drop, drop-cons}
 use Rattle.std.proofs.Math.Logic.{by_cases}
 use Rattle.std.proofs.Math.Decide.{dec_lt}
 use Rattle.std.proofs.Math.Seq.{take-take}
-use Rattle.std.proofs.lemmas.List.{set_split, drop_all, take_rest, take_at, get_or-take}
+use Rattle.std.proofs.lemmas.List.{set_split, drop_all, take_at, get_or-take}
 use Rattle.lists.specs.Laws.Rest.{take_set}
-use Rattle.std.specs.List.{prefix_len}
+use mathlib.Core.List.{foldl}
 use Rattle.model.specs.declared.link.Link.{Link}
+use Rattle.model.specs.declared.micro.MicroId.{MicroId}
 use Rattle.db_gains.specs.declared.factor.Factor.{Factor}
 use Rattle.db_gains.specs.declared.walk.Walk.{Walk}
 use Rattle.model.specs.Limits.{links_most}
-use Rattle.model.specs.DbInsert.{before, same_ends, gains, gain_in, has_room}
-use Rattle.db_gains.specs.Factor.{Right}
-use Rattle.db_gains.specs.Walk.{Ready}
-use Rattle.db_gains.specs.Laws.Passed.{Passed, Absent, gain_passed, gain_same, gain_after}
-
--- how many links at the front stand before the key
-abbrev pub front : Link → List Link → ℕ
-front k ls = prefix_len (λ (l : Link). before l k) ls
+use Rattle.model.specs.DbInsert.{before, same_ends, gains, gain_in, gain_of, has_room}
+use Rattle.db_gains.specs.Factor.{Right, factor_after, since_of}
+use Rattle.db_gains.specs.Walk.{Ready, front, pair_walked, pairs_walked, resumed_at}
+use Rattle.db_gains.specs.Laws.Factor.{factor_passed, factor_same, factor_kept}
+use Rattle.db_gains.specs.Laws.Passed.{Passed, Absent, passed_on, gain_passed, gain_same, gain_after}
 
 -- the first of a list does not stand before the key
 abbrev Stops : Link → List Link → Type 0
 Stops k [] = Unit
 Stops k (l ∷ ls) = before l k ≡ false
-
--- at a place up to which all links are passed, with the factor f
-abbrev pub Begins : Link → List Link → Factor → Walk → Type 0
-Begins k ls f w = (w.at ≤ length ls) × Passed k (take w.at ls) × (w.factor ≡ f)
 
 module _ (k : Link) where
   pub front_most : (ls : List Link) → front k ls ≤ length ls
@@ -69,16 +63,22 @@ module _ (k : Link) where
   abbrev pub walk : ℕ → Factor → Walk
   walk a f = record { at = a; key = k; factor = f }
 
-  -- the walk goes to that place from s on, a place up to which all links are passed
-  pub sought :
-      (ls : List Link) (s n : ℕ) (f : Factor) →
-      s ≤ length ls →
-      Passed k (take s ls) →
-      n ≡ front k (take (length ls - s) (drop s ls)) →
-      walk (s + n) f ≡ walk (front k ls) f
-  sought ls s n f h p e =
-      ap (λ (a : ℕ). walk a f)
-      (ap (λ (m : ℕ). s + m) (e ∙ ap (front k) (take_rest ls s)) ∙ front_after s ls h p)
+  -- where a walk goes on for the key, all links are passed
+  pub resumed_passed :
+      (ls : List Link) (w : Walk) → w.at ≤ length ls → Passed w.key (take w.at ls) → (resumed_at w k ≤ length ls) × Passed k (take (resumed_at w k) ls)
+  resumed_passed ls w h p = go (before k w.key) refl
+    where
+      go : (b : Bool) → before k w.key ≡ b → (cond b 0 w.at ≤ length ls) × Passed k (take (cond b 0 w.at) ls)
+      go true e = (omega arith, tt)
+      go false e = (h, passed_on w.key k (take w.at ls) e p)
+
+  -- there is none of the key's ends
+  absent : (ls : List Link) (z : Link) → (front k ls < length ls → same_ends (get_or ls (front k ls) z) k ≡ false) → Absent k (drop (front k ls) ls)
+  absent ls z none =
+      by_cases (dec_lt (front k ls) (length ls))
+      (λ h. let first : drop (front k ls) ls ≡ get_or ls (front k ls) z ∷ drop (suc (front k ls)) ls = drop-cons ls (front k ls) z h in
+      subst (Absent k) (sym first) (subst (Stops k) first (stops ls), none h))
+      (λ h. subst (Absent k) (sym (drop_all (front k ls) ls (omega (arith, h)))) tt)
 
   -- ---- what a gain does at that place
   module _ (lambda t : Float) (room : Bool) (ls : List Link) where
@@ -98,18 +98,29 @@ module _ (k : Link) where
         (sym (ap (gain_in lambda t room k) first ∙ gain_same lambda t room k (get_or ls (front k ls) z) (drop (suc (front k ls)) ls) (subst (Stops k) first (stops ls)) e))
         ∙ sym gain_front
 
-    -- there is none of the key's ends
-    absent : (z : Link) → (front k ls < length ls → same_ends (get_or ls (front k ls) z) k ≡ false) → Absent k (drop (front k ls) ls)
-    absent z none =
-        by_cases (dec_lt (front k ls) (length ls))
-        (λ h. let first : drop (front k ls) ls ≡ get_or ls (front k ls) z ∷ drop (suc (front k ls)) ls = drop-cons ls (front k ls) z h in
-        subst (Absent k) (sym first) (subst (Stops k) first (stops ls), none h))
-        (λ h. subst (Absent k) (sym (drop_all (front k ls) ls (omega (arith, h)))) tt)
-
     pub gain_new :
         (z : Link) → (front k ls < length ls → same_ends (get_or ls (front k ls) z) k ≡ false) →
         gain_in lambda t room k ls ≡ take (front k ls) ls ++ cond room (gains lambda t k ∷ drop (front k ls) ls) (drop (front k ls) ls)
-    gain_new z none = gain_front ∙ ap (λ (r : List Link). take (front k ls) ls ++ r) (gain_after lambda t room k (drop (front k ls) ls) (absent z none))
+    gain_new z none = gain_front ∙ ap (λ (r : List Link). take (front k ls) ls ++ r) (gain_after lambda t room k (drop (front k ls) ls) (absent ls z none))
+
+  -- ---- which factor it leaves
+  module _ (lambda t : Float) (f : Factor) (ls : List Link) (z : Link) where
+    factor_front : factor_after lambda t k ls f ≡ factor_after lambda t k (drop (front k ls) ls) f
+    factor_front =
+        ap (λ (r : List Link). factor_after lambda t k r f) (sym (take-append-drop (front k ls) ls))
+        ∙ factor_passed lambda t k f (take (front k ls) ls) (drop (front k ls) ls) (front_passed ls)
+
+    -- the link there has the key's ends
+    pub factor_there :
+        front k ls < length ls → same_ends (get_or ls (front k ls) z) k ≡ true →
+        factor_after lambda t k ls f ≡ since_of lambda t f (get_or ls (front k ls) z).last
+    factor_there h e =
+        let first : drop (front k ls) ls ≡ get_or ls (front k ls) z ∷ drop (suc (front k ls)) ls = drop-cons ls (front k ls) z h in
+        factor_front ∙ ap (λ (r : List Link). factor_after lambda t k r f) first
+        ∙ factor_same lambda t k f (get_or ls (front k ls) z) (drop (suc (front k ls)) ls) (subst (Stops k) first (stops ls)) e
+
+    pub factor_absent : (front k ls < length ls → same_ends (get_or ls (front k ls) z) k ≡ false) → factor_after lambda t k ls f ≡ f
+    factor_absent none = factor_front ∙ factor_kept lambda t k f (drop (front k ls) ls) (absent ls z none)
 
 -- what holds of a walk at its own place, by what it is
 pub at_place : (P : Walk → Type 0) {v : Walk} {k : Link} {m : ℕ} {f : Factor} → v ≡ walk k m f → P (walk k v.at f) → P v
@@ -127,26 +138,43 @@ module _ (k : Link) (lambda t : Float) (n : ℕ) (xs : List Link) (at : ℕ) (fi
       record { place = h; passed = subst (Passed k) (sym same) passed; right = r }
 
   -- the link there has the key's ends
-  pub gained_there :
-      (room : Bool) (z v : Link) → at < n → same_ends (get_or xs at z) k ≡ true → v ≡ gains lambda t (get_or xs at z) →
-      take n (set xs at v) ≡ gain_in lambda t room k (take n xs)
-  gained_there room z v h e new =
-      let ls : List Link = take n xs in
-      let read : get_or ls at z ≡ get_or xs at z = get_or-take n xs at z h in
-      let low : front k ls < length ls = omega (arith, found, length-take-le n xs fits) in
-      let ends : same_ends (get_or ls (front k ls) z) k ≡ true = subst (λ (m : ℕ). same_ends (get_or ls m z) k ≡ true) found (ap (λ (l : Link). same_ends l k) read ∙ e) in
-      take_set n xs at v ∙ ap (set ls at) (new ∙ ap (gains lambda t) (sym read))
-      ∙ ap (λ (m : ℕ). set ls m (gains lambda t (get_or ls m z))) found
-      ∙ gain_there k lambda t room ls z low ends
+  module _ (z : Link) (h : at < n) where
+    read : get_or (take n xs) at z ≡ get_or xs at z
+    read = get_or-take n xs at z h
+
+    low : front k (take n xs) < length (take n xs)
+    low = omega (arith, h, found, length-take-le n xs fits)
+
+    ends : (b : Bool) → same_ends (get_or xs at z) k ≡ b → same_ends (get_or (take n xs) (front k (take n xs)) z) k ≡ b
+    ends b e = subst (λ (m : ℕ). same_ends (get_or (take n xs) m z) k ≡ b) found (ap (λ (l : Link). same_ends l k) read ∙ e)
+
+    pub gained_there :
+        (room : Bool) (v : Link) → same_ends (get_or xs at z) k ≡ true → v ≡ gains lambda t (get_or xs at z) →
+        take n (set xs at v) ≡ gain_in lambda t room k (take n xs)
+    gained_there room v e new =
+        let ls : List Link = take n xs in
+        take_set n xs at v ∙ ap (set ls at) (new ∙ ap (gains lambda t) (sym read))
+        ∙ ap (λ (m : ℕ). set ls m (gains lambda t (get_or ls m z))) found
+        ∙ gain_there k lambda t room ls z low (ends true e)
+
+    pub left_there : (f : Factor) → same_ends (get_or xs at z) k ≡ true → factor_after lambda t k (take n xs) f ≡ since_of lambda t f (get_or xs at z).last
+    left_there f e =
+        let ls : List Link = take n xs in
+        factor_there k lambda t f ls z low (ends true e)
+        ∙ ap (λ (m : ℕ). since_of lambda t f (get_or ls m z).last) (sym found)
+        ∙ ap (λ (l : Link). since_of lambda t f l.last) read
 
   module _ (z : Link) (none : at < n → same_ends (get_or xs at z) k ≡ false) where
+    apart : front k (take n xs) < length (take n xs) → same_ends (get_or (take n xs) (front k (take n xs)) z) k ≡ false
+    apart h = let less : at < n = omega (arith, h, found, length-take-le n xs fits) in ends z less false (none less)
+
+    pub left_absent : (f : Factor) → factor_after lambda t k (take n xs) f ≡ f
+    left_absent f = factor_absent k lambda t f (take n xs) z apart
+
     -- the key has no link: a new one goes there, if there is room
     new_there : (room : Bool) → gain_in lambda t room k (take n xs) ≡ take at (take n xs) ++ cond room (gains lambda t k ∷ drop at (take n xs)) (drop at (take n xs))
     new_there room =
         let ls : List Link = take n xs in
-        let apart : front k ls < length ls → same_ends (get_or ls (front k ls) z) k ≡ false =
-        λ h. let low : at < n = omega (arith, h, found, length-take-le n xs fits) in
-        subst (λ (m : ℕ). same_ends (get_or ls m z) k ≡ false) found (ap (λ (l : Link). same_ends l k) (get_or-take n xs at z low) ∙ none low) in
         gain_new k lambda t room ls z apart
         ∙ ap (λ (m : ℕ). take m ls ++ cond room (gains lambda t k ∷ drop m ls) (drop m ls)) (sym found)
 
@@ -191,3 +219,10 @@ module _ (k : Link) (lambda t : Float) (n : ℕ) (xs : List Link) (at : ℕ) (fi
         omega (arith, ap (λ (r : List Link). length r) whole, length-append (take at (take n xs)) (v ∷ drop at (take n xs)), a) in
         ready_there (take (n + 1) (ys ++ post)) f long
         (ap (take at) whole ∙ take_at (take at (take n xs)) (v ∷ drop at (take n xs)) at a) r
+
+-- ---- all pairs
+module _ (lambda t : Float) where
+  -- the links that a walk leaves are those of the gains
+  pub walked_gains : (s : Walk × List Link) (ps : List (MicroId × MicroId)) → (pairs_walked lambda t s ps).1 ≡ foldl (gain_of lambda t) s.1 ps
+  walked_gains s [] = refl
+  walked_gains s (p ∷ ps) = walked_gains (pair_walked lambda t s p) ps

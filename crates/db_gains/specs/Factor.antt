@@ -1,10 +1,11 @@
 -- The fade kept for the next link, and a gain by it. Definitions only.
-use Rattle.std.specs.Prelude.{◌≡◌, Bool, not, ◌&&◌, cond, eqb, Float}
+use Rattle.std.specs.Prelude.{◌≡◌, Bool, not, ◌&&◌, cond, List, [], ◌∷◌, eqb, Float}
 use Rattle.std.specs.Float.{binary64}
 use Rattle.std.specs.Float.Ieee.{is_nan, fits, to_bits}
 use Rattle.float.specs.Rounded.{◌⊕◌, ◌⊗◌, one}
 use Rattle.feature.specs.Fade.{fade_of}
 use Rattle.model.specs.declared.link.Link.{Link}
+use Rattle.model.specs.DbInsert.{before, same_ends}
 use Rattle.db_gains.specs.declared.factor.Factor.{Factor}
 
 -- the fade from last to t, and last beside it
@@ -22,6 +23,13 @@ same_bits a b = is_number a && is_number b && eqb (to_bits binary64 a) (to_bits 
 -- the factor from last: f, where it is from there too
 abbrev pub since_of : (lambda t : Float) → Factor → (last : Float) → Factor
 since_of lambda t f last = cond (same_bits f.last last) f (factor_of lambda t last)
+
+-- "the fade of the last link is kept for the next": after a gain at k's place, f or, where the list has a link of k's ends, the factor from its last
+unfoldable pub factor_after : (lambda t : Float) → (k : Link) → List Link → Factor → Factor
+factor_after lambda t k [] f = f
+factor_after lambda t k (l ∷ rest) f =
+    cond (before l k) (factor_after lambda t k rest f)
+    (cond (same_ends l k) (since_of lambda t f l.last) f)
 
 -- "fades to t and gains 1", by the fade
 abbrev pub gains_by : (fade t : Float) → Link → Link

@@ -2,7 +2,7 @@
 ghost use Rattle.std.specs.Prelude.{◌≡◌, ◌≤◌, map, take};
 ghost use mathlib.Core.List.{foldl};
 ghost use Rattle.model.specs.DbInsert.{gain_of, pair_of, pairs_of};
-ghost use Rattle.db_gains.specs.Walk.{Ready};
+ghost use Rattle.db_gains.specs.Walk.{Ready, pairs_walked};
 
 use crate::walk::Walk;
 use db_link::key_of;
@@ -24,10 +24,30 @@ impl Walk {
         requires few { count ≤ LINKS }
         ensures ready { Ready lambda t self.new (take result links.new) }
         ensures few { result ≤ LINKS }
-        ensures gained { take result links.new ≡ foldl (gain_of lambda t) (take count links.old) (map (pair_of a) others.now) }
+        ensures walked { (self.new, take result links.new) ≡ pairs_walked lambda t (self.old, take count links.old) (map (pair_of a) others.now) }
     {
         for b in others {
             count = self.gain(links, count, key_of(a, *b, t), lambda, t);
+        }
+        count
+    }
+
+    // Each pair of the ids.
+    fn gain_rows(
+        &mut self,
+        links: &mut [Link; LINKS],
+        mut count: usize,
+        ids: &[MicroId],
+        lambda: f64,
+        t: f64,
+    ) -> usize
+        requires ready { Ready lambda t self.old (take count links.old) }
+        requires few { count ≤ LINKS }
+        ensures few { result ≤ LINKS }
+        ensures walked { (self.new, take result links.new) ≡ pairs_walked lambda t (self.old, take count links.old) (pairs_of ids.now) }
+    {
+        for (i, a) in ids.iter().enumerate() {
+            count = self.gain_row(links, count, *a, &ids[i + 1..], lambda, t);
         }
         count
     }
@@ -37,7 +57,7 @@ impl Walk {
 // links come behind those that are there: the stream's own two fields, "a link list of at most 2,016".
 pub fn gain_pairs(
     links: &mut [Link; LINKS],
-    mut count: usize,
+    count: usize,
     ids: &[MicroId],
     lambda: f64,
     t: f64,
@@ -45,10 +65,7 @@ pub fn gain_pairs(
     ensures gained { take result links.new ≡ foldl (gain_of lambda t) (take count links.old) (pairs_of ids.now) }
     ensures few { result ≤ LINKS }
 {
+    let held = count.min(LINKS);
     let mut walk = Walk::new(lambda, t);
-    count = count.min(LINKS);
-    for (i, a) in ids.iter().enumerate() {
-        count = walk.gain_row(links, count, *a, &ids[i + 1..], lambda, t);
-    }
-    count
+    walk.gain_rows(links, held, ids, lambda, t)
 }

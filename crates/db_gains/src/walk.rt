@@ -3,10 +3,11 @@ ghost use Rattle.std.specs.Prelude.{◌≡◌, ◌+◌, ◌-◌, ◌<◌, ◌≤
 ghost use Rattle.std.specs.List.{prefix_len};
 ghost use Rattle.model.specs.DbInsert.{before, gain_in, has_room};
 ghost use Rattle.db_gains.specs.Factor.{factor_of, gains_by};
-ghost use Rattle.db_gains.specs.Walk.{Ready};
+ghost use Rattle.db_gains.specs.Walk.{Ready, advanced, resumed, walk_after};
 ghost use Rattle.db_gains.specs.Laws.Passed.{Passed};
 
 use crate::factor::Factor;
+use db_link::{is_before, key_of, same_ends};
 use model::{LINKS, Link, MicroId};
 
 // The links before `at` are known to stand before `key`; `factor` is kept from the last gain for the next.
@@ -21,7 +22,7 @@ pub(crate) struct Walk {
 fn passed(links: &[Link], key: &Link) -> usize
     ensures { result ≡ prefix_len (λ l. before l key.now) links.now }
 {
-    links.iter().take_while(|l| l.ends() < key.ends()).count()
+    links.iter().take_while(|l| is_before(l, key)).count()
 }
 
 // l faded to t, with 1 more.
@@ -53,9 +54,27 @@ impl Walk {
         let id = MicroId(0);
         Self {
             at: 0,
-            key: db_link::key_of(id, id, t),
+            key: key_of(id, id, t),
             factor: Factor::new(lambda, t, t),
         }
+    }
+
+    // For a key: from where it is, or from the front where the key stands before the old one.
+    fn resume(&mut self, key: Link)
+        ensures { self.new ≡ resumed self.old key }
+    {
+        if is_before(&key, &self.key) {
+            self.at = 0;
+        }
+        self.key = key;
+    }
+
+    // On past the links that stand before its key.
+    fn advance(&mut self, links: &[Link])
+        requires { self.old.at ≤ length links.now }
+        ensures { self.new ≡ advanced links.now self.old }
+    {
+        self.at += passed(&links[self.at..], &self.key);
     }
 
     // To the first link that does not stand before the key. Those passed stand before the old key, so before a new one too that is not smaller.
@@ -64,11 +83,8 @@ impl Walk {
         requires passed { Passed self.old.key (take self.old.at links.now) }
         ensures { self.new ≡ record { at = prefix_len (λ l. before l key) links.now; key = key; factor = self.old.factor } }
     {
-        if key.ends() < self.key.ends() {
-            self.at = 0;
-        }
-        self.at += passed(&links[self.at..], &key);
-        self.key = key;
+        self.resume(key);
+        self.advance(links);
     }
 
     // The key's link gains, or a new one goes to its place, where there is room; how many there are now. The stream's array and
@@ -83,13 +99,14 @@ impl Walk {
     ) -> usize
         requires ready { Ready lambda t self.old (take count links.old) }
         requires few { count ≤ LINKS }
+        ensures walk { self.new ≡ walk_after lambda t key (take count links.old) self.old }
         ensures ready { Ready lambda t self.new (take result links.new) }
         ensures few { result ≤ LINKS }
         ensures gained { take result links.new ≡ gain_in lambda t (has_room (take count links.old)) key (take count links.old) }
     {
         self.seek(&links[..count], key);
         let at = self.at;
-        if at < count && links[at].ends() == key.ends() {
+        if at < count && same_ends(&links[at], &key) {
             let link = links[at];
             let fade = self.factor.since(lambda, t, link.last);
             links[at] = gained(link, fade, t);

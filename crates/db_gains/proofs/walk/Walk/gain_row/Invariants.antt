@@ -1,8 +1,7 @@
 use Rattle.std.proofs.Common.{◌≡◌, ◌≤◌, map, take, drop}
-use mathlib.Core.List.{foldl}
 use Rattle.model.specs.Limits.{links_most}
-use Rattle.model.specs.DbInsert.{gain_of, pair_of}
-use Rattle.db_gains.specs.Walk.{Ready}
+use Rattle.model.specs.DbInsert.{pair_of}
+use Rattle.db_gains.specs.Walk.{Ready, pairs_walked}
 use Rattle.db_gains.proofs.walk.Walk.gain_row.Given as goal
 
 abbrev pub invariant-loop-b : goal.invariant-loop-b
@@ -10,6 +9,6 @@ invariant-loop-b l =
     record {
       ready : Ready l.lambda l.t l.self (take l.count l.links);
       few : l.count ≤ links_most;
-      left : foldl (gain_of l.lambda l.t) (take l.count l.links) (map (pair_of l.a) (drop l.b-index l.others))
-          ≡ foldl (gain_of l.lambda l.t) (take l.fn.count l.fn.links) (map (pair_of l.a) l.others);
+      left : pairs_walked l.lambda l.t (l.self, take l.count l.links) (map (pair_of l.a) (drop l.b-index l.others))
+          ≡ pairs_walked l.lambda l.t (l.fn.self, take l.fn.count l.fn.links) (map (pair_of l.a) l.others);
     }
