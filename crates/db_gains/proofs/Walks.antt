@@ -4,7 +4,7 @@ use Rattle.std.proofs.Common.{take-append-drop, drop-cons}
 use Rattle.std.proofs.Math.Logic.{by_cases}
 use Rattle.std.proofs.Math.Decide.{dec_lt}
 use Rattle.std.proofs.Math.Seq.{take-take}
-use Rattle.std.proofs.lemmas.List.{set_split, drop_all, take_at, get_or-take}
+use Rattle.std.proofs.lemmas.List.{set_split, drop_all, take_at, drop_at, get_or-take}
 use Rattle.lists.specs.Laws.Rest.{take_set}
 use mathlib.Core.List.{foldl}
 use Rattle.model.specs.declared.link.Link.{Link}
@@ -198,13 +198,17 @@ module _ (k : Link) (lambda t : Float) (n : ℕ) (xs : List Link) (at : ℕ) (fi
         (ap (take at) es ∙ take-take at (n + 1) xs more ∙ sym (take-take at n xs within))
         (ap (λ (m : ℕ). take m s) size ∙ ap (take n) es ∙ take-take n (n + 1) xs some)
 
-    pub whole : take (n + 1) (ys ++ post) ≡ take at (take n xs) ++ v ∷ drop at (take n xs)
-    whole =
+    size : length ys ≡ n + 1
+    size =
         let a : length (take at (take n xs)) ≡ at = length-take-le at (take n xs) (omega (arith, within, length-take-le n xs fits)) in
         let b : length (drop at (take n xs)) ≡ n - at = length-drop at (take n xs) ∙ ap (λ (m : ℕ). m - at) (length-take-le n xs fits) in
-        let size : length ys ≡ n + 1 =
-        ap (λ (r : List Link). length r) put ∙ length-append (take at (take n xs)) (v ∷ drop at (take n xs)) ∙ omega (arith, a, b, within) in
-        take_at ys post (n + 1) size ∙ put
+        ap (λ (r : List Link). length r) put ∙ length-append (take at (take n xs)) (v ∷ drop at (take n xs)) ∙ omega (arith, a, b, within)
+
+    pub whole : take (n + 1) (ys ++ post) ≡ take at (take n xs) ++ v ∷ drop at (take n xs)
+    whole = take_at ys post (n + 1) size ∙ put
+
+    pub rest_new : drop (n + 1) (ys ++ post) ≡ post
+    rest_new = drop_at ys post (n + 1) size
 
     pub gained_new : (z : Link) → (at < n → same_ends (get_or xs at z) k ≡ false) → v ≡ gains lambda t k → take (n + 1) (ys ++ post) ≡ gain_in lambda t (has_room (take n xs)) k (take n xs)
     gained_new z none new =

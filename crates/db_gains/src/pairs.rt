@@ -1,5 +1,5 @@
 // Every pair of neighbours gains, in one pass over the links while the pairs' links ascend.
-ghost use Rattle.std.specs.Prelude.{◌≡◌, ◌≤◌, map, take};
+ghost use Rattle.std.specs.Prelude.{◌≡◌, ◌≤◌, drop, map, take};
 ghost use mathlib.Core.List.{foldl};
 ghost use Rattle.model.specs.DbInsert.{gain_of, pair_of, pairs_of};
 ghost use Rattle.db_gains.specs.Walk.{Ready, pairs_walked};
@@ -23,7 +23,9 @@ impl Walk {
         requires ready { Ready lambda t self.old (take count links.old) }
         requires few { count ≤ LINKS }
         ensures ready { Ready lambda t self.new (take result links.new) }
+        ensures more { count ≤ result }
         ensures few { result ≤ LINKS }
+        ensures rest { drop result links.new ≡ drop result links.old }
         ensures walked { (self.new, take result links.new) ≡ pairs_walked lambda t (self.old, take count links.old) (map (pair_of a) others.now) }
     {
         for b in others {
@@ -44,6 +46,7 @@ impl Walk {
         requires ready { Ready lambda t self.old (take count links.old) }
         requires few { count ≤ LINKS }
         ensures few { result ≤ LINKS }
+        ensures rest { drop result links.new ≡ drop result links.old }
         ensures walked { (self.new, take result links.new) ≡ pairs_walked lambda t (self.old, take count links.old) (pairs_of ids.now) }
     {
         for (i, a) in ids.iter().enumerate() {
@@ -64,6 +67,7 @@ pub fn gain_pairs(
 ) -> usize
     ensures gained { take result links.new ≡ foldl (gain_of lambda t) (take count links.old) (pairs_of ids.now) }
     ensures few { result ≤ LINKS }
+    ensures rest { drop result links.new ≡ drop result links.old }
 {
     let held = count.min(LINKS);
     let mut walk = Walk::new(lambda, t);

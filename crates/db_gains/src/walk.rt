@@ -101,7 +101,9 @@ impl Walk {
         requires few { count ≤ LINKS }
         ensures walk { self.new ≡ walk_after lambda t key (take count links.old) self.old }
         ensures ready { Ready lambda t self.new (take result links.new) }
+        ensures more { count ≤ result }
         ensures few { result ≤ LINKS }
+        ensures rest { drop result links.new ≡ drop result links.old }
         ensures gained { take result links.new ≡ gain_in lambda t (has_room (take count links.old)) key (take count links.old) }
     {
         self.seek(&links[..count], key);

@@ -1,5 +1,5 @@
 // The links that a cleanup keeps.
-ghost use Rattle.std.specs.Prelude.{◌≡◌, ◌≤◌, length, nat_eq, take};
+ghost use Rattle.std.specs.Prelude.{◌≡◌, ◌≤◌, drop, length, nat_eq, take};
 ghost use Rattle.std.specs.List.{list_any};
 ghost use Rattle.lists.specs.Retain.{retain};
 ghost use Rattle.model.specs.DbInsert.{is_held, link_stays};
@@ -33,6 +33,7 @@ fn stays(link: &Link, micros: &[DbMicro], lambda: f64, floor: f64, t: f64) -> bo
 pub fn retained(links: &mut [Link], micros: &[DbMicro], lambda: f64, floor: f64, t: f64) -> usize
     ensures kept { take result links.new ≡ retain (link_stays lambda floor t micros.now) links.old }
     ensures few { result ≤ length links.old }
+    ensures rest { drop result links.new ≡ drop result links.old }
 {
     lists::retain(links, |link| stays(link, micros, lambda, floor, t))
 }

@@ -1,5 +1,5 @@
 // How a point joins the micro-clusters.
-ghost use Rattle.std.specs.Prelude.{◌≡◌, ◌≤◌, length, take};
+ghost use Rattle.std.specs.Prelude.{◌≡◌, ◌≤◌, drop, length, take};
 ghost use Rattle.float.specs.Rounded.{◌⊗◌};
 ghost use Rattle.feature.specs.Feature.{max_dim};
 ghost use Rattle.model.specs.DbInsert.{absorbs};
@@ -60,6 +60,7 @@ pub fn with_point(
 )
     ensures micros { take count.new micros.new ≡ placed_among scan.now r lambda t next_id.old x.now count.old (take count.old micros.old) }
     ensures count { count.new ≤ MICROS }
+    ensures rest { drop count.new micros.new ≡ drop count.new micros.old }
     ensures next { next_id.new ≡ next_after scan.now count.old next_id.old }
 {
     let held = (*count).min(MICROS);

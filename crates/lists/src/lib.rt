@@ -1,14 +1,15 @@
 // Laws of loops over lists, for every element type, in specs/; and functions over slices: a retain in place, and what a closure says of each element.
 #![tactic(auto)]
 
-ghost use Rattle.std.specs.Prelude.{◌≡◌, ◌≤◌, Bool, length, map, take};
+ghost use Rattle.std.specs.Prelude.{◌≡◌, ◌≤◌, Bool, drop, length, map, take};
 ghost use Rattle.lists.specs.Retain.{AnswersBy, retain};
 
-// Moves the items at which `keep` answers `true` to the front, in their order, and counts them.
+// Moves the items at which `keep` answers `true` to the front, in their order, and counts them; those behind stay as they were.
 pub fn retain<T: Copy, F: Fn(&T) -> bool>(items: &mut [T], keep: F) -> usize
     requires { F.IsAlwaysCallable keep }
     ensures kept { (p : T → Bool) → AnswersBy F.Fn keep p → take result items.new ≡ retain p items.old }
     ensures bound { result ≤ length items.old }
+    ensures rest { drop result items.new ≡ drop result items.old }
 {
     let mut kept = 0;
     // Over places: the slice that is read is also written.

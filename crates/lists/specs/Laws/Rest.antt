@@ -1,13 +1,14 @@
 -- A counting loop over the first n elements of a list.
 -- Each step opens one element (`rest_step`), and at n nothing is left (`rest_end`). Assumes nothing.
-use Rattle.std.specs.Prelude.{ℕ, zero, suc, ◌+◌, ◌≤◌, ◌<◌, min, ◌≡◌, List, [], ◌∷◌, take, get_or, set}
+use Rattle.std.specs.Prelude.{ℕ, zero, suc, ◌+◌, ◌-◌, ◌≤◌, ◌<◌, min, ◌≡◌, List, [], ◌∷◌, take, drop, get_or, set}
 use Rattle.std.proofs.Math.Nat.{zero-min, min-zero, suc-min-suc}
 use Rattle.std.proofs.Math.Path.{refl}
-use Rattle.std.proofs.Common.{ap, ◌∙◌, add-one}
+use Rattle.std.proofs.Common.{sym, ap, ◌∙◌, add-one}
 use native.Mathlib.Omega.{arith}
 use Rattle.std.proofs.Math.ListN.{length, length-take, drop_of_length-le}
 use Rattle.lists.specs.Rest.{rest}
 use Rattle.std.proofs.Math.Seq.{drop-cons, get_or-take, length-take-le, drop-set-lt}
+use Rattle.std.proofs.lemmas.List.{drop-drop}
 
 module _ {ℓ} {A : Type ℓ} where
   pub rest_start : (n : ℕ) (l : List A) → rest n 0 l ≡ take n l
@@ -49,6 +50,12 @@ module _ {ℓ} {A : Type ℓ} where
   pub rest_set : (n i : ℕ) (l : List A) (j : ℕ) (a : A) → j < i → rest n i (set l j a) ≡ rest n i l
   unfolding rest
   rest_set n i l j a h = rw (take_set n l j a, drop-set-lt i (take n l) j a)
+
+  -- lists that are the same from n on are so from m on
+  pub drop_on : (n m : ℕ) (l k : List A) → n ≤ m → drop n l ≡ drop n k → drop m l ≡ drop m k
+  drop_on n m l k h e =
+      let q : n + (m - n) ≡ m = omega arith in
+      sym (drop-drop (m - n) n l ∙ ap (λ (i : ℕ). drop i l) q) ∙ ap (drop (m - n)) e ∙ drop-drop (m - n) n k ∙ ap (λ (i : ℕ). drop i k) q
 
   -- ---- a loop up to the count, cut to the m places: where it starts, and where it ends
   pub cut_take : (n c m : ℕ) (l : List A) → n ≡ min c m → length l ≡ m → take n l ≡ take c l

@@ -9,7 +9,7 @@ use Rattle.db_gains.specs.declared.factor.Factor.{Factor}
 use Rattle.db_gains.specs.Factor.{Right, factor_of, since_of}
 use Rattle.db_gains.specs.Laws.Factor.{gain_by, since_right}
 use Rattle.db_gains.specs.Walk.{Ready, front}
-use Rattle.db_gains.proofs.Walks.{at_place, front_most, walk, ready_there, gained_there, left_there, left_absent, gained_full, gained_new, ready_new}
+use Rattle.db_gains.proofs.Walks.{at_place, front_most, walk, ready_there, gained_there, left_there, left_absent, gained_full, gained_new, ready_new, rest_new}
 use Rattle.db_gains.proofs.walk.Walk.gain.Goals.{else-at-count-via-then-at-count+else-same_ends, else-at-count-via-else-at-count}
 use Rattle.db_gains.proofs.walk.Walk.gain.Goals as goal
 
@@ -141,3 +141,12 @@ returns-clause-gained c =
       | else-at-count-via-else-at-count w ↦ λ h. absurd (omega (arith, h, w.if-at-count.false))
     ])
     (c.gained-2.ensures ∙ gain_by a.lambda a.t c.fade-fade.result a.key c.fade-fade.ensures.value)
+
+pub returns-clause-rest : goal.returns-clause-rest
+returns-clause-rest c =
+    let a = c.args in
+    let xs = a.links.now in
+    let fits : a.count ≤ length xs = omega (arith, c.told-links, c.requires.few) in
+    let all : a.count + 1 ≤ length xs = omega (arith, c.told-links, c.requires.few, c.if-count-eq-LINKS.false) in
+    rest_new a.key a.lambda a.t a.count xs c.seek.new.self.at fits (ap (λ (w : Walk). w.at) c.seek.ensures)
+    (take (a.count + 1) xs) c.insert.new.links _ c.gained-2.result (omega (arith, all, c.told-links)) all refl c.insert.ensures

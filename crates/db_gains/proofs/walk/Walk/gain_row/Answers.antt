@@ -1,6 +1,7 @@
 -- `gain_row` meets its contract. Assumes nothing.
-use Rattle.std.proofs.Common.{◌≡◌, ◌+◌, ◌∷◌, List, map, take, drop, get_or, sym, ap, ap₂, ◌∙◌, add-one, drop-cons}
+use Rattle.std.proofs.Common.{◌≡◌, ◌+◌, ◌∷◌, List, map, take, drop, get_or, sym, ap, ap₂, ◌∙◌, add-one, drop-cons, arith}
 use Rattle.std.proofs.lemmas.List.{drop_all}
+use Rattle.lists.specs.Laws.Rest.{drop_on}
 use Rattle.model.specs.declared.link.Link.{Link}
 use Rattle.model.specs.declared.micro.MicroId.{MicroId}
 use Rattle.model.specs.DbInsert.{gain_in, has_room, pair_of}
@@ -23,7 +24,9 @@ loop-b-preserved c =
     ∙ ap (λ (k : Link). (walk_after a.lambda a.t k old walk, gain_in a.lambda a.t (has_room old) k old)) c.key_of.ensures in
     record {
       ready = now.ready;
+      more = omega (arith, now.more, c.loop-b.invariant.more);
       few = now.few;
+      rest = now.rest ∙ drop_on c.loop-b.count c.gain-count.result c.loop-b.links a.links.now now.more c.loop-b.invariant.rest;
       left = ap (λ (s : Walk × List Link). pairs_walked a.lambda a.t s (map (pair_of a.a) (drop (i + 1) xs))) one
           ∙ ap (λ (r : List MicroId). pairs_walked a.lambda a.t (walk, old) (map (pair_of a.a) r)) (sym first) ∙ c.loop-b.invariant.left;
     }

@@ -2,6 +2,7 @@
 use Rattle.std.proofs.Common.{◌≡◌, ◌≤◌, ◌+◌, ◌∷◌, ◌++◌, ℕ, List, [], length, map, take, drop, get_or, refl, sym, ap, ◌∙◌, add-one, drop-cons, arith}
 use Rattle.std.proofs.lemmas.List.{drop_all, take_rest}
 use mathlib.Core.List.{foldl}
+use Rattle.lists.specs.Laws.Rest.{drop_on}
 use Rattle.model.specs.declared.link.Link.{Link}
 use Rattle.model.specs.declared.micro.MicroId.{MicroId}
 use Rattle.model.specs.DbInsert.{pair_of, pairs_of}
@@ -38,6 +39,7 @@ loop-i-preserved c =
     record {
       ready = now.ready;
       few = now.few;
+      rest = now.rest ∙ drop_on c.loop-i.count c.gain_row-count.result c.loop-i.links a.links.now now.more c.loop-i.invariant.rest;
       left = row (pair_walked a.lambda a.t) old _ ids i (record { 0 = 0 }) (omega (arith, c.loop-i-test.true))
           (now.walked ∙ ap (λ (r : List MicroId). pairs_walked a.lambda a.t old (map (pair_of (get_or ids i (record { 0 = 0 }))) r)) (take_rest ids (i + 1)))
           ∙ c.loop-i.invariant.left;

@@ -9,6 +9,7 @@ invariant-loop-i l =
     record {
       ready : Ready l.lambda l.t l.self (take l.count l.links);
       few : l.count ≤ links_most;
+      rest : drop l.count l.links ≡ drop l.count l.fn.links;
       left : pairs_walked l.lambda l.t (l.self, take l.count l.links) (pairs_of (drop l.i l.ids))
           ≡ pairs_walked l.lambda l.t (l.fn.self, take l.fn.count l.fn.links) (pairs_of l.ids);
     }
