@@ -1,3 +1,3 @@
 -- What the proofs of `src/` cite, on plain lists.
-mod Rows
-mod Labelled
+pub mod Rows
+pub mod Labelled
