@@ -1,6 +1,5 @@
 -- Where a point goes, and what that makes of the pools. Definitions only.
-use Rattle.std.specs.Prelude.{ℕ, ◌+◌, ◌<◌, Bool, cond, List, [], ◌∷◌, ◌++◌, ltb, Float, length, set, Option, None, Some}
-use Rattle.std.specs.Bool.{then_some}
+use Rattle.std.specs.Prelude.{ℕ, ◌+◌, ◌<◌, Bool, cond, List, [], ◌∷◌, ◌++◌, ltb, Float, length, set, Result, Ok, Err}
 use Rattle.std.specs.Float.Ieee.{le}
 use Rattle.lists.specs.Retain.{without}
 use Rattle.drift.specs.Monitor.{Nearest}
@@ -11,7 +10,7 @@ use Rattle.model.specs.DenInsert.{newborn, smaller_of}
 use Rattle.den_pool.specs.declared.trial.Absorbed.{Absorbed}
 use Rattle.den_pool.specs.declared.trial.Trial.{Trial}
 use Rattle.den_pool.specs.Held.{micro_in}
-use Rattle.den_pool.specs.Tried.{tried_of}
+use Rattle.den_pool.specs.Tried.{tried_of, absorbed_in}
 use Rattle.den_placement.specs.declared.choice.Target.{Target}
 use Rattle.den_placement.specs.declared.choice.Target.TheVariants.{Potential, Promotion, Outlier, Newborn}
 use Rattle.den_placement.specs.declared.choice.Placed.{Placed}
@@ -22,15 +21,20 @@ use Rattle.den_placement.specs.declared.choice.Placement.{Placement}
 abbrev pub grown_to : (bm : Float) → Absorbed → Target
 grown_to bm a = cond (le bm a.micro.body.cf.w) (Promotion a.place) (Outlier a.place)
 
--- "Else the nearest outlier is tried likewise .. Else a new outlier goes to the end of the outliers", if there is room
-abbrev pub else_by : Params → (t : Float) → List Float → (room : Bool) → (outlier : Option Absorbed) → Option Placed
-else_by p t x room None = then_some room (record { target = Newborn; micro = newborn p.settings.dim t x })
-else_by p t x room (Some a) = Some (record { target = grown_to p.bm a; micro = a.micro })
+-- "Else a new outlier goes to the end of the outliers", if there is room; if not, the point alone at place 0
+abbrev pub alone_by : (room : Bool) → DenMicro → Result Placed Absorbed
+alone_by room m = cond room (Ok (record { target = Newborn; micro = m })) (Err (record { place = 0; micro = m }))
+
+-- "Else the nearest outlier is tried likewise"; where none absorbs, the point is alone
+abbrev pub else_by : Params → (t : Float) → List Float → (room : Bool) → (outlier : Result Absorbed Absorbed) → Result Placed Absorbed
+else_by p t x room (Ok a) = Ok (record { target = grown_to p.bm a; micro = a.micro })
+else_by p t x room (Err a) = alone_by room (newborn p.settings.dim t x)
 
 -- "The nearest potential one is tried first"; the drift distance is "the potential pool's if it merged there, else the smaller of both"
-abbrev pub placement_by : Params → (t : Float) → List Float → (room : Bool) → (near : Nearest) → (potential : Option Absorbed) → (outlier : Trial) → Placement
-placement_by p t x room near (Some a) b = record { placed = Some (record { target = Potential a.place; micro = a.micro }); near = near }
-placement_by p t x room near None b = record { placed = else_by p t x room b.taken; near = smaller_of near b.near }
+abbrev pub placement_by :
+    Params → (t : Float) → List Float → (room : Bool) → (near : Nearest) → (potential : Result Absorbed Absorbed) → (outlier : Trial) → Placement
+placement_by p t x room near (Ok a) b = record { placed = Ok (record { target = Potential a.place; micro = a.micro }); near = near }
+placement_by p t x room near (Err a) b = record { placed = else_by p t x room b.taken; near = smaller_of near b.near }
 
 -- "are fewer than 64 micro-clusters held (DenStream: both pools together)?"
 abbrev pub has_room : Holdings → Bool
@@ -42,9 +46,9 @@ placement_of p t h x =
     placement_by p t x (has_room h) a.near a.taken (tried_of p t x h.outliers)
 
 -- what is placed, its micro-cluster kept in 15 places, as that of dim coordinates which it is; a placement so
-abbrev pub placed_told : (dim : ℕ) → Option Placed → Option Placed
-placed_told dim None = None
-placed_told dim (Some k) = Some (record { target = k.target; micro = micro_in dim k.micro })
+abbrev pub placed_told : (dim : ℕ) → Result Placed Absorbed → Result Placed Absorbed
+placed_told dim (Ok k) = Ok (record { target = k.target; micro = micro_in dim k.micro })
+placed_told dim (Err a) = Err (absorbed_in dim a)
 
 abbrev pub placement_told : (dim : ℕ) → Placement → Placement
 placement_told dim r = record { placed = placed_told dim r.placed; near = r.near }

@@ -28,8 +28,8 @@ pub struct Placed {
 
 #[derive(Clone, Copy)]
 pub struct Placement {
-    // None where both pools are full, and none absorbs the point.
-    pub placed: Option<Placed>,
+    // Where both pools are full and none absorbs the point, it goes nowhere: the point alone, at place 0.
+    pub placed: Result<Placed, Absorbed>,
     // The drift distance.
     pub near: Option<f64>,
 }
@@ -57,7 +57,8 @@ fn grown(absorbed: &Absorbed, bm: f64) -> Target
 }
 
 // The potential pool is tried first, then the outliers; else the point is a new outlier, where there is a place. Of a point as
-// many coordinates are looked at as the parameters say.
+// many coordinates are looked at as the parameters say. The trials are read where they lie: moved out of them, a micro-cluster made
+// the compiler keep one more copy of the whole stream.
 pub fn place(
     potential: &[DenMicro],
     outliers: &[DenMicro],
@@ -71,29 +72,29 @@ pub fn place(
 {
     let point = &x[..x.len().min(params.settings.dim.min(MAX_DIM))];
     let p = den_pool::try_merge(potential, params, t, point);
-    if let Some(absorbed) = p.taken {
-        let placed = Placed {
-            target: Target::Potential(absorbed.place),
-            micro: absorbed.micro,
-        };
-        return Placement {
-            placed: Some(placed),
-            near: p.near,
-        };
+    let near = p.near;
+    if let Ok(absorbed) = &p.taken {
+        let target = Target::Potential(absorbed.place);
+        let micro = absorbed.micro;
+        let placed = Ok(Placed { target, micro });
+        return Placement { placed, near };
     }
     let o = den_pool::try_merge(outliers, params, t, point);
-    let near = smaller(p.near, o.near);
+    let near = smaller(near, o.near);
     let has_place = potential.len() + outliers.len() < MICROS;
-    let placed = match o.taken {
-        Some(absorbed) => Some(Placed {
-            target: grown(&absorbed, params.bm),
+    let placed = match &o.taken {
+        Ok(absorbed) => Ok(Placed {
+            target: grown(absorbed, params.bm),
             micro: absorbed.micro,
         }),
-        None if has_place => Some(Placed {
+        Err(_) if has_place => Ok(Placed {
             target: Target::Newborn,
             micro: den_pool::newborn(point, t),
         }),
-        None => None,
+        Err(_) => Err(Absorbed {
+            place: 0,
+            micro: den_pool::newborn(point, t),
+        }),
     };
     Placement { placed, near }
 }

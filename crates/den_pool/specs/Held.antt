@@ -23,6 +23,10 @@ settled_of p = sized (dim_of p) p
 abbrev pub size_of : Params → List Float → ℕ
 size_of p x = min (length x) (dim_of p)
 
+-- how many coordinates of a point a micro-cluster keeps
+abbrev pub kept_of : List Float → ℕ
+kept_of x = min (length x) max_dim
+
 -- a micro-cluster kept in 15 places, as that of dim coordinates which it is
 abbrev pub micro_in : (dim : ℕ) → DenMicro → DenMicro
 micro_in dim m = record { body = body_in dim m.body; t0 = m.t0 }

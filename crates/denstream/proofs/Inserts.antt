@@ -7,8 +7,8 @@ use mathlib.Core.List.{List, [], ◌∷◌}
 use lib.Ieee.{Float, lt}
 use lib.ListN.{length, take}
 use Rattle.std.proofs.lemmas.List.{take_all}
-use Rattle.std.specs.Prelude.{Option, None, Some, Ok, Err, ◌==◌}
-use Rattle.std.specs.Option.{is_some}
+use Rattle.std.specs.Prelude.{Result, Ok, Err, ◌==◌}
+use Rattle.std.specs.Result.{is_ok}
 use Rattle.model.specs.Answers.{is_done, Insertion}
 use Rattle.model.specs.Questions.{first_no, other_length, insertion_asked}
 use Rattle.model.specs.Limits.{clock_limit}
@@ -20,6 +20,7 @@ use Rattle.model.specs.DenState.{Params, State}
 use Rattle.model.specs.DenInsert as doc
 use Rattle.model.specs.DenInsert.{nearest_for}
 use Rattle.model.specs.Denstream.{denstream, tick_of, has_place, insert_of}
+use Rattle.den_pool.specs.declared.trial.Absorbed.{Absorbed}
 use Rattle.den_pool.specs.Held.{micro_in, sized, settled_of, size_of}
 use Rattle.den_pool.specs.Held.{dim_of as dim_of_params}
 use Rattle.den_placement.specs.Pools.{pools_in}
@@ -31,9 +32,9 @@ use Rattle.denstream.specs.declared.stream.DenStream.{DenStream}
 use Rattle.denstream.specs.View.{view, dim_of}
 use Rattle.denstream.specs.Inside.Placed.{held_by, placed_by}
 
-told_some : (dim : ℕ) (o : Option Placed) → is_some o ≡ is_some (placed_told dim o)
-told_some dim None = refl
-told_some dim (Some k) = refl
+told_ok : (dim : ℕ) (o : Result Placed Absorbed) → is_ok o ≡ is_ok (placed_told dim o)
+told_ok dim (Ok k) = refl
+told_ok dim (Err a) = refl
 
 -- a placement by as many coordinates as are looked at is one by all that the point has, if they are the parameters'
 pub all_looked_at :
@@ -89,22 +90,22 @@ module _ (s : DenStream) (x : List Float) (d : ℕ) (ed : d ≡ dim_of s) (a : I
   -- both are well, and p is the placement
   module _ (done : is_done a ≡ true) (p : Placement) (m : Met s x p) where
     abbrev place : Bool
-    place = is_some p.placed
+    place = is_ok p.placed
 
     placing : length x ≡ d → Placing (view s) x (placement_told (dim_of s) p)
     placing h = subst (Placing (view s) x) (sym (m (h ∙ ed))) (placing_law (view s) x)
 
     fits : length x ≡ d → place ≡ has_place (view s) x
-    fits h = told_some (dim_of s) p.placed ∙ (placing h).fits
+    fits h = told_ok (dim_of s) p.placed ∙ (placing h).fits
 
-    by_place : (o : Option Placed) → p.placed ≡ o → insertion_asked d (length x) s.t place ≡ cond (is_some o) (Ok tt) (Err NoPlace)
-    by_place o e = decides d (length x) s.t place a ea done ∙ ap (λ (q : Option Placed). cond (is_some q) (Ok tt) (Err NoPlace)) e
+    by_place : (u : Bool) → place ≡ u → insertion_asked d (length x) s.t place ≡ cond u (Ok tt) (Err NoPlace)
+    by_place u e = decides d (length x) s.t place a ea done ∙ ap (λ (v : Bool). cond v (Ok tt) (Err NoPlace)) e
 
-    pub placeless : p.placed ≡ None → (r : Insertion) → r ≡ Err NoPlace → record { answer = r; stream = view s } ≡ insert_of (view s) x
-    placeless e r er = answered place fits r (er ∙ sym (by_place None e)) (ap is_done er)
+    pub placeless : place ≡ false → (r : Insertion) → r ≡ Err NoPlace → record { answer = r; stream = view s } ≡ insert_of (view s) x
+    placeless e r er = answered place fits r (er ∙ sym (by_place false e)) (ap is_done er)
 
     -- the point is taken: k is where it goes, and v what becomes of the stream
-    module _ (k : Placed) (e : p.placed ≡ Some k) where
+    module _ (k : Placed) (e : p.placed ≡ Ok k) where
       pub ready : Ready k.target (view s).held
       ready =
           (placing (taken_asks d (length x) s.t true a ea done).0).ready (record { target = k.target; micro = micro_in (dim_of s) k.micro })
@@ -114,4 +115,4 @@ module _ (s : DenStream) (x : List Float) (d : ℕ) (ed : d ≡ dim_of s) (a : I
       taken v ev =
           inserted_by denstream (view s) x d place (held_by s k) p.near (Ok tt) true v ed fits
           (λ h q. (placing h).placed (record { target = k.target; micro = micro_in (dim_of s) k.micro }) (ap (placed_told (dim_of s)) e))
-          (λ h. (placing h).near) (sym (by_place (Some k) e)) refl ev
+          (λ h. (placing h).near) (sym (by_place true (ap is_ok e))) refl ev

@@ -50,7 +50,9 @@ impl DenStream {
             self.t,
             x,
         );
-        let placed = placement.placed.ok_or(InsertError::NoPlace)?;
+        let Ok(placed) = placement.placed else {
+            return Err(InsertError::NoPlace);
+        };
         self.put(placed);
         self.advance(placement.near);
         Ok(())

@@ -10,25 +10,29 @@ use Rattle.den_placement.proofs.choice.place.Goals as goal
 size : (c : goal.After-min-2) → c.min-2.result ≡ size_of c.args.params.now c.args.x.now
 size c = c.min-2.ensures ∙ ap (min (length c.args.x.now)) c.min.ensures
 
-pub returns-in-Some : goal.returns-in-Some
-returns-in-Some c =
+pub returns-in-Ok : goal.returns-in-Ok
+returns-in-Ok c =
     let a = c.args in
-    placed_potential a.params.now a.t a.x.now a.potential.now a.outliers.now _ (size (goal.at.returns-in-Some c).After-min-2) c.try_merge-p.result c.try_merge-p.ensures _ c.in-Some.is
+    placed_potential a.params.now a.t a.x.now a.potential.now a.outliers.now _ (size (goal.at.returns-in-Ok c).After-min-2)
+    c.try_merge-p.result c.try_merge-p.ensures _ c.in-Ok.is
 
-pub returns-in-Some-taken : goal.returns-in-Some-taken
-returns-in-Some-taken c =
+pub returns-in-Ok-taken : goal.returns-in-Ok-taken
+returns-in-Ok-taken c =
     let a = c.args in
-    placed_outlier a.params.now a.t a.x.now a.potential.now a.outliers.now _ (size (goal.at.returns-in-Some-taken c).After-min-2) c.try_merge-p.result c.try_merge-p.ensures c.in_default.is
-    c.try_merge-o.result c.try_merge-o.ensures _ c.smaller-near.ensures _ c.in-Some-taken.is _ c.grown.ensures
+    placed_outlier a.params.now a.t a.x.now a.potential.now a.outliers.now _ (size (goal.at.returns-in-Ok-taken c).After-min-2)
+    c.try_merge-p.result c.try_merge-p.ensures _ c.in_default.is
+    c.try_merge-o.result c.try_merge-o.ensures _ c.smaller-near.ensures _ c.in-Ok-taken.is _ c.grown.ensures
 
-pub returns-in-None : goal.returns-in-None
-returns-in-None c =
+pub returns-in-Err : goal.returns-in-Err
+returns-in-Err c =
     let a = c.args in
-    placed_newborn a.params.now a.t a.x.now a.potential.now a.outliers.now _ (size (goal.at.returns-in-None c).After-min-2) c.try_merge-p.result c.try_merge-p.ensures c.in_default.is
-    c.try_merge-o.result c.try_merge-o.ensures _ c.smaller-near.ensures c.in-None.is _ c.newborn.ensures c.if-has_place.true
+    placed_newborn a.params.now a.t a.x.now a.potential.now a.outliers.now _ (size (goal.at.returns-in-Err c).After-min-2)
+    c.try_merge-p.result c.try_merge-p.ensures _ c.in_default.is
+    c.try_merge-o.result c.try_merge-o.ensures _ c.smaller-near.ensures _ c.in-Err.is _ c.newborn.ensures c.if-has_place.true
 
-pub returns-in-None-2 : goal.returns-in-None-2
-returns-in-None-2 c =
+pub returns-in-Err-2 : goal.returns-in-Err-2
+returns-in-Err-2 c =
     let a = c.args in
-    placed_nowhere a.params.now a.t a.x.now a.potential.now a.outliers.now _ (size (goal.at.returns-in-None-2 c).After-min-2) c.try_merge-p.result c.try_merge-p.ensures c.in_default.is
-    c.try_merge-o.result c.try_merge-o.ensures _ c.smaller-near.ensures c.in-None-2.is c.if-has_place.false
+    placed_nowhere a.params.now a.t a.x.now a.potential.now a.outliers.now _ (size (goal.at.returns-in-Err-2 c).After-min-2)
+    c.try_merge-p.result c.try_merge-p.ensures _ c.in_default.is
+    c.try_merge-o.result c.try_merge-o.ensures _ c.smaller-near.ensures _ c.in-Err-2.is _ c.newborn-in-Err-2.ensures c.if-has_place.false

@@ -1,6 +1,7 @@
 -- `try_merge` meets its contract. Assumes nothing.
 use Prim.Native.Nat.{◌<◌}
-use mathlib.Core.Path.{◌≡◌, ◌∙◌}
+use mathlib.Core.Path.{◌≡◌, refl, sym, ◌∙◌}
+use mathlib.Core.Bool.{true, false}
 use native.Mathlib.Omega.{arith}
 use lib.ListN.{length}
 use borrow.Author.Rules.{rules}
@@ -23,6 +24,7 @@ pub returns-in_default : goal.returns-in_default
 returns-in_default c =
     let a = c.args in
     tried_none a.params.now a.t a.x.now a.pool.now _ (least (goal.at.returns-in_default c).After-nearest_by-nearest) c.in_default.is
+    _ c.newborn.ensures
 
 -- it stands in the pool
 here : (c : goal.In-Some) → c.in-Some.found.place < length c.args.pool.now
@@ -36,8 +38,14 @@ offset_bounds-pool-place c = omega (arith, here c)
 pub bounds-pool-place : goal.bounds-pool-place
 bounds-pool-place c = here c
 
-pub returns : goal.returns
-returns c =
+pub returns-then-stands : goal.returns-then-stands
+returns-then-stands c =
     let a = c.args in
-    tried_some a.params.now a.t a.x.now a.pool.now _ (least (goal.at.returns c).After-nearest_by-nearest) _ c.in-Some.is
-    _ _ _ _ c.absorbed-micro.ensures c.stands.ensures c.then_some.ensures
+    tried_some a.params.now a.t a.x.now a.pool.now _ (least (goal.at.returns-then-stands c).After-nearest_by-nearest) _ c.in-Some.is
+    _ _ true _ c.absorbed-micro.ensures (sym c.if-stands.true ∙ c.stands.ensures) refl
+
+pub returns-else-stands : goal.returns-else-stands
+returns-else-stands c =
+    let a = c.args in
+    tried_some a.params.now a.t a.x.now a.pool.now _ (least (goal.at.returns-else-stands c).After-nearest_by-nearest) _ c.in-Some.is
+    _ _ false _ c.absorbed-micro.ensures (sym c.if-stands.false ∙ c.stands.ensures) refl

@@ -1,11 +1,10 @@
 -- `DenStream::insert` meets its contract. Assumes nothing.
-use mathlib.Core.Path.{◌≡◌, ap, ap₂, ◌∙◌}
+use mathlib.Core.Path.{◌≡◌, refl, ap, ap₂, ◌∙◌}
 use mathlib.Core.Bool.{true}
 use mathlib.Core.List.{List}
 use borrow.Author.Rules.{rules}
-use Rattle.std.specs.Prelude.{None, Some, Err}
+use Rattle.std.specs.Result.{is_ok}
 use Rattle.model.specs.declared.micro.DenMicro.{DenMicro}
-use Rattle.model.specs.declared.answers.InsertError.TheVariants.{NoPlace}
 use Rattle.model.specs.Answers.{is_done}
 use Rattle.model.specs.DenState.{State}
 use Rattle.model.specs.Denstream.{tick_of}
@@ -36,25 +35,21 @@ returns-in_err-insertion_asked-clause-told c =
 done : (c : goal.In_ok-insertion_asked) → is_done c.insertion_asked.result ≡ true
 done c = ap is_done c.in_ok-insertion_asked.was
 
-pub returns-in_err-placed-clause-told : goal.returns-in_err-placed-clause-told
-returns-in_err-placed-clause-told c =
-    let none : c.place-placement.result.placed ≡ None = search rules in
-    let same : c.from_residual-in_err-placed.result ≡ Err NoPlace = search rules in
-    let at = goal.at.returns-in_err-placed-clause-told c in
+pub returns-in_default-clause-told : goal.returns-in_default-clause-told
+returns-in_default-clause-told c =
+    let at = goal.at.returns-in_default-clause-told c in
     placeless c.args.self.now c.args.x.now c.dim.result c.dim.ensures c.insertion_asked.result c.insertion_asked.ensures
-    (done at.In_ok-insertion_asked) c.place-placement.result (met at.After-place-placement) none _ same
+    (done at.In_ok-insertion_asked) c.place-placement.result (met at.After-place-placement) (ap is_ok c.in_default.is) _ refl
 
 pub put-requires : goal.put-requires
 put-requires c =
-    let there : c.place-placement.result.placed ≡ Some c.in_ok-placed.placed = search rules in
     let at = goal.at.put-requires c in
     ready c.args.self.now c.args.x.now c.dim.result c.dim.ensures c.insertion_asked.result c.insertion_asked.ensures
-    (done at.In_ok-insertion_asked) c.place-placement.result (met at.After-place-placement) _ there
+    (done at.In_ok-insertion_asked) c.place-placement.result (met at.After-place-placement) _ c.in-Ok.is
 
 pub returns-clause-told : goal.returns-clause-told
 returns-clause-told c =
-    let there : c.place-placement.result.placed ≡ Some c.in_ok-placed.placed = search rules in
     let at = goal.at.returns-clause-told c in
     taken c.args.self.now c.args.x.now c.dim.result c.dim.ensures c.insertion_asked.result c.insertion_asked.ensures
-    (done at.In_ok-insertion_asked) c.place-placement.result (met at.After-place-placement) _ there
+    (done at.In_ok-insertion_asked) c.place-placement.result (met at.After-place-placement) _ c.in-Ok.is
     _ (c.advance.ensures ∙ ap (λ (v : State). tick_of v c.place-placement.result.near) c.put.ensures)
