@@ -60,8 +60,8 @@ module _ (k : Link) where
       let more : a + front k (drop a ls) ≡ front k ls = front_after a ls (omega (arith, h)) p.1 in
       rw p.0 (omega (arith, more))
 
-  abbrev pub walk : ℕ → Factor → Walk
-  walk a f = record { at = a; key = k; factor = f }
+  abbrev pub walk : (at steps : ℕ) → Factor → Walk
+  walk a s f = record { at = a; key = k; steps = s; factor = f }
 
   -- where a walk goes on for the key, all links are passed
   pub resumed_passed :
@@ -123,8 +123,8 @@ module _ (k : Link) where
     factor_absent none = factor_front ∙ factor_kept lambda t k f (drop (front k ls) ls) (absent ls z none)
 
 -- what holds of a walk at its own place, by what it is
-pub at_place : (P : Walk → Type 0) {v : Walk} {k : Link} {m : ℕ} {f : Factor} → v ≡ walk k m f → P (walk k v.at f) → P v
-at_place P {v} {k} {m} {f} e p = subst P (sym e) (subst (λ (n : ℕ). P (walk k n f)) (ap (λ (w : Walk). w.at) e) p)
+pub at_place : (P : Walk → Type 0) {v : Walk} {k : Link} {m s : ℕ} {f : Factor} → v ≡ walk k m s f → P (walk k v.at s f) → P v
+at_place P {v} {k} {m} {s} {f} e p = subst P (sym e) (subst (λ (n : ℕ). P (walk k n s f)) (ap (λ (w : Walk). w.at) e) p)
 
 -- ---- the first n links of an array, whose walk is at the place found
 module _ (k : Link) (lambda t : Float) (n : ℕ) (xs : List Link) (at : ℕ) (fits : n ≤ length xs) (found : at ≡ front k (take n xs)) where
@@ -132,8 +132,9 @@ module _ (k : Link) (lambda t : Float) (n : ℕ) (xs : List Link) (at : ℕ) (fi
   within = omega (arith, found, front_most k (take n xs), length-take-le n xs fits)
 
   -- a walk there, over an array that begins as this one does up to the place
-  pub ready_there : (ys : List Link) (f : Factor) → at ≤ length ys → take at ys ≡ take at (take n xs) → Right lambda t f → Ready lambda t (walk k at f) ys
-  ready_there ys f h same r =
+  pub ready_there :
+      (ys : List Link) (s : ℕ) (f : Factor) → at ≤ length ys → take at ys ≡ take at (take n xs) → Right lambda t f → Ready lambda t (walk k at s f) ys
+  ready_there ys s f h same r =
       let passed : Passed k (take at (take n xs)) = subst (λ (m : ℕ). Passed k (take m (take n xs))) (sym found) (front_passed k (take n xs)) in
       record { place = h; passed = subst (Passed k) (sym same) passed; right = r }
 
@@ -216,12 +217,12 @@ module _ (k : Link) (lambda t : Float) (n : ℕ) (xs : List Link) (at : ℕ) (fi
         let o : has_room ls ≡ true = lt-ltb (length ls) links_most (omega (arith, room, length-take-le n xs fits)) in
         whole ∙ ap (λ (l : Link). take at ls ++ l ∷ drop at ls) new ∙ sym (ap (λ (r : Bool). gain_in lambda t r k ls) o ∙ new_there z none true)
 
-    pub ready_new : (f : Factor) → Right lambda t f → Ready lambda t (walk k at f) (take (n + 1) (ys ++ post))
-    ready_new f r =
+    pub ready_new : (i : ℕ) (f : Factor) → Right lambda t f → Ready lambda t (walk k at i f) (take (n + 1) (ys ++ post))
+    ready_new i f r =
         let a : length (take at (take n xs)) ≡ at = length-take-le at (take n xs) (omega (arith, within, length-take-le n xs fits)) in
         let long : at ≤ length (take (n + 1) (ys ++ post)) =
         omega (arith, ap (λ (r : List Link). length r) whole, length-append (take at (take n xs)) (v ∷ drop at (take n xs)), a) in
-        ready_there (take (n + 1) (ys ++ post)) f long
+        ready_there (take (n + 1) (ys ++ post)) i f long
         (ap (take at) whole ∙ take_at (take at (take n xs)) (v ∷ drop at (take n xs)) at a) r
 
 -- ---- all pairs

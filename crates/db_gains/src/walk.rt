@@ -3,18 +3,20 @@ ghost use Rattle.std.specs.Prelude.{◌≡◌, ◌+◌, ◌-◌, ◌<◌, ◌≤
 ghost use Rattle.std.specs.List.{prefix_len};
 ghost use Rattle.model.specs.DbInsert.{before, gain_in, has_room};
 ghost use Rattle.db_gains.specs.Factor.{factor_of, gains_by};
-ghost use Rattle.db_gains.specs.Walk.{Ready, advanced, resumed, walk_after};
+ghost use Rattle.db_gains.specs.Walk.{Ready, advanced, resumed, sought, walk_after};
 ghost use Rattle.db_gains.specs.Laws.Passed.{Passed};
 
 use crate::factor::Factor;
 use db_link::{is_before, key_of, same_ends};
 use model::{LINKS, Link, MicroId};
 
-// The links before `at` are known to stand before `key`; `factor` is kept from the last gain for the next.
+// The links before `at` are known to stand before `key`; `steps` counts the links gone past for all keys so far, of which a search
+// from the front each time would go past more; `factor` is kept from the last gain for the next.
 #[derive(Clone, Copy)]
 pub(crate) struct Walk {
     pub(crate) at: usize,
     pub(crate) key: Link,
+    pub(crate) steps: usize,
     pub(crate) factor: Factor,
 }
 
@@ -55,6 +57,7 @@ impl Walk {
         Self {
             at: 0,
             key: key_of(id, id, t),
+            steps: 0,
             factor: Factor::new(lambda, t, t),
         }
     }
@@ -74,14 +77,17 @@ impl Walk {
         requires { self.old.at ≤ length links.now }
         ensures { self.new ≡ advanced links.now self.old }
     {
-        self.at += passed(&links[self.at..], &self.key);
+        let steps = passed(&links[self.at..], &self.key);
+        self.at += steps;
+        // It never wraps: each of a stream's 2,016 pairs goes past 2,016 links at most.
+        self.steps = self.steps.wrapping_add(steps);
     }
 
     // To the first link that does not stand before the key. Those passed stand before the old key, so before a new one too that is not smaller.
     fn seek(&mut self, links: &[Link], key: Link)
         requires place { self.old.at ≤ length links.now }
         requires passed { Passed self.old.key (take self.old.at links.now) }
-        ensures { self.new ≡ record { at = prefix_len (λ l. before l key) links.now; key = key; factor = self.old.factor } }
+        ensures { self.new ≡ sought key links.now self.old }
     {
         self.resume(key);
         self.advance(links);

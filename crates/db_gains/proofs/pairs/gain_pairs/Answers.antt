@@ -29,6 +29,7 @@ pub returns-clause-gained : goal.returns-clause-gained
 returns-clause-gained c =
     let a = c.args in
     let ids = a.ids.now in
+    let same = cut_take c.min-held.result a.count links_most a.links.now c.min-held.ensures c.told-links in
     ap (λ (s : Walk × List Link). s.1) c.gain_rows.ensures.walked
     ∙ walked_gains a.lambda a.t (c.new-walk.result, take c.min-held.result a.links.now) (pairs_of ids)
-    ∙ ap (λ (ls : List Link). foldl (gain_of a.lambda a.t) ls (pairs_of ids)) (cut_take c.min-held.result a.count links_most a.links.now c.min-held.ensures c.told-links)
+    ∙ ap (λ (ls : List Link). foldl (gain_of a.lambda a.t) ls (pairs_of ids)) same
