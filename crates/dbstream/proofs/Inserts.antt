@@ -171,12 +171,12 @@ module _ {s : DbStream} {x : List Float} {d : ℕ} {f : Scan} (m : Met s x d f) 
 
 -- ---- the whole insert
 module _
-    {s : DbStream} {x : List Float} {d : ℕ} {f : Scan} (m : Met s x d f)
+    {s : DbStream} {x : List Float} {d : ℕ} {f : Scan} (ed : d ≡ dim_of s) (m : length x ≡ d → Met s x d f)
     (a : Insertion) (place : Bool) (ep : place ≡ has_place_by f s.count) (e : a ≡ insertion_asked d (length x) s.t place) where
   -- v is what becomes of the stream, by whether the answer is no refusal
   pub inserted :
       (b : Bool) (v : State) → b ≡ is_done a → v ≡ cond b (tick_of (placed_by s f x) (told_of s f x)) (view s) →
       record { answer = a; stream = v } ≡ insert_of (view s) x
   inserted b v eb ev =
-      inserted_by dbstream (view s) x d place (held_by s f x) f.nearest a b v m.coordinates (λ h. ep ∙ place_is m h)
-      (λ h p. placed_is m h (place_free f s.count (sym ep ∙ p))) (λ h. ap (λ (q : Scan). q.nearest) (met m h)) e eb ev
+      inserted_by dbstream (view s) x d place (held_by s f x) f.nearest a b v ed (λ h. ep ∙ place_is (m h) h)
+      (λ h p. placed_is (m h) h (place_free f s.count (sym ep ∙ p))) (λ h. ap (λ (q : Scan). q.nearest) (met (m h) h)) e eb ev

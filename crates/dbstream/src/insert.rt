@@ -49,10 +49,13 @@ impl DbStream {
         ensures kept { insertion_number result ≢ 0 → self.new ≡ self.old }
     {
         let dim = self.dim();
-        let scan = db_neighbours::scan_for(self.held(), x, dim, self.params.settings.r);
+        // In an array, as a mean's coordinates are.
+        let point = model::padded(x);
+        let point = &point[..dim];
+        let scan = db_neighbours::scan_for(self.held(), point, dim, self.params.settings.r);
         let place = scan.has_place(self.count);
         model::insertion_asked(dim, x.len(), self.t, place)?;
-        self.take(&scan, x);
+        self.take(&scan, point);
         Ok(())
     }
 

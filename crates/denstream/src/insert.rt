@@ -41,14 +41,17 @@ impl DenStream {
         ensures told { inserted_told view (record { answer = result; stream = self.new }) ≡ insert_of (view self.old) x.now }
         ensures kept { insertion_number result ≢ 0 → self.new ≡ self.old }
     {
+        let dim = self.dim();
+        // In an array, as a mean's coordinates are. Made after the questions, it had the compiler keep one more copy of the stream.
+        let point = model::padded(x);
         // Those about the point and the clock; the last one, for a place, is asked of the placement.
-        model::insertion_asked(self.dim(), x.len(), self.t, true)?;
+        model::insertion_asked(dim, x.len(), self.t, true)?;
         let placement = den_placement::place(
             self.potential(),
             self.outliers(),
             &self.params,
             self.t,
-            x,
+            &point[..dim],
         );
         let Ok(placed) = placement.placed else {
             return Err(InsertError::NoPlace);
