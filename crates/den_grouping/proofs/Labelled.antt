@@ -54,7 +54,7 @@ sought_are pool d few =
     ∙ all_true pool micros_most few ∙ sym (map-map (λ (m : DenMicro). true) (micro_in d) pool)
 
 -- the roots stand among the places, whichever are sought
-roots_low :
+pub roots_low :
     (n : ℕ) (sought : List Bool) (es : List (ℕ × ℕ)) (roots : List ℕ) → n ≤ micros_most → length sought ≤ places → roots ≡ roots_in sought es →
     (i : ℕ) → i < n → get_or (take n roots) i 0 < micros_most
 roots_low n sought es roots h few e i k =
@@ -132,7 +132,7 @@ module _ (p : Params) (t : Float) (l : List DenMicro) (end : ℕ) (size : length
       ∙ ap (λ (m : List Bool). labels_by m pairs) mask_is
 
   -- of the array that holds them
-  labelled : (r : List ℤ) → r ≡ label.labels_in roots mask → take end r ≡ labels_in p t l
+  pub labelled : (r : List ℤ) → r ≡ label.labels_in roots mask → take end r ≡ labels_in p t l
   labelled r e =
       ap₂ take (sym mask_size) e ∙ labels_first roots mask (omega (arith, mask_size)) roots_size ∙ labels_are
 

@@ -92,7 +92,7 @@ module _ (s : DenStream) (x : List Float) (d : ℕ) (ed : d ≡ dim_of s) (a : I
     abbrev place : Bool
     place = is_ok p.placed
 
-    placing : length x ≡ d → Placing (view s) x (placement_told (dim_of s) p)
+    pub placing : length x ≡ d → Placing (view s) x (placement_told (dim_of s) p)
     placing h = subst (Placing (view s) x) (sym (m (h ∙ ed))) (placing_law (view s) x)
 
     fits : length x ≡ d → place ≡ has_place (view s) x

@@ -22,7 +22,7 @@ use Rattle.input_session.specs.Session.{Ran, ran, insert_all, inserted_ran, open
 use Rattle.input_session.proofs.Runs.{points, points_behind}
 
 -- an opening that is accepted has dim in range
-open_dim : (p : Settings) (o : Opened State) → o ≡ open_of p → is_open o.answer ≡ true → dim_in_range p.dim ≡ true
+pub open_dim : (p : Settings) (o : Opened State) → o ≡ open_of p → is_open o.answer ≡ true → dim_in_range p.dim ≡ true
 unfolding stream.asked
 open_dim p o e h = go (dim_in_range p.dim) (sym (ap (λ (q : Opened State). is_open q.answer) e) ∙ h)
   where

@@ -7,10 +7,15 @@ use Rattle.std.specs.Int.{from_le_bytes}
 use mir.Syntax.{w64}
 use Rattle.words.specs.Word.{little_endian, word_at}
 
-past : (bytes : List ℕ) (k : ℕ) → length bytes ≤ k → get_or bytes k 0 ≡ 0
-past [] k h = refl
-past (b ∷ bytes) zero h = absurd (omega arith)
-past (b ∷ bytes) (suc k) h = past bytes k (omega arith)
+pub get_d_past : (bytes : List ℕ) (at : ℕ) → length bytes ≤ at → get_or bytes at 0 ≡ 0
+get_d_past [] at h = refl
+get_d_past (b ∷ bytes) zero h = absurd (omega arith)
+get_d_past (b ∷ bytes) (suc at) h = get_d_past bytes at (omega arith)
+
+pub word_past : (n : ℕ) (bytes : List ℕ) (at : ℕ) → length bytes ≤ at → little_endian n bytes at ≡ 0
+unfolding little_endian
+word_past zero bytes at h = refl
+word_past (suc n) bytes at h = let l : length bytes ≤ at + 1 = omega arith in rw (get_d_past bytes at h, word_past n bytes (at + 1) l)
 
 abbrev none : ℕ → List ℕ
 none n = replicate n 0
@@ -37,7 +42,7 @@ place rest n k e h =
     ∙ padded (take n rest) (8 - n) k
     ∙ by_cases (dec_lt k n)
     (λ l. get_or-take n rest k 0 l)
-    (λ l. past (take n rest) k (omega (arith, length-take n rest)) ∙ sym (past rest k (omega arith)))
+    (λ l. get_d_past (take n rest) k (omega (arith, length-take n rest)) ∙ sym (get_d_past rest k (omega arith)))
 
 worth : (word rest : List ℕ) → ((k : ℕ) → k < 8 → get_or word k 0 ≡ get_or rest k 0) → from_le_bytes w64 word ≡ from_le_bytes w64 rest
 worth word rest h =
@@ -64,10 +69,4 @@ here word copied rest bytes at n e c w r =
     ∙ by_worth bytes at
 
 pub beyond : (bytes : List ℕ) (at : ℕ) → length bytes < at → from_le_bytes w64 (none 8) ≡ word_at bytes at
-beyond bytes at h = here (none 8) [] [] bytes at 0 refl refl refl (nothing bytes at (omega arith))
-  where
-    nothing : (bytes : List ℕ) (at : ℕ) → length bytes ≤ at → [] ≡ drop at bytes
-    nothing [] zero h = refl
-    nothing [] (suc at) h = refl
-    nothing (b ∷ bytes) zero h = absurd (omega arith)
-    nothing (b ∷ bytes) (suc at) h = nothing bytes at (omega arith)
+beyond bytes at h = sym (word_past 8 bytes at (omega (arith, h)))

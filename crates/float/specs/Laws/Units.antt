@@ -32,7 +32,7 @@ place m (negsuc x) h =
     let parts : 2 ^ 1074 ≡ 2 ^ k * 2 ^ suc x = ap (λ (y : ℕ). 2 ^ y) (sym (back 1074 (suc x) l)) ∙ pow-add 2 k (suc x) in
     (k, ap (λ (y : ℕ). y * 2 ^ 1074) (mul-one m) ∙ ap (λ (y : ℕ). m * y) parts ∙ sym (mul_assoc m (2 ^ k) (2 ^ suc x)))
 
--- every double above 0 is a number of units
+-- every finite double above 0 is a number of units
 pub in_units : (m : ℕ) (e : ℤ) → T (fits binary64 (fin false (suc m) e)) → Units (suc m) e
 unfolding fits
 in_units m e f =
