@@ -10,8 +10,8 @@ use crate::factor::Factor;
 use db_link::{is_before, key_of, same_ends};
 use model::{LINKS, Link, MicroId};
 
-// The links before `at` are known to stand before `key`; `steps` counts the links gone past for all keys so far, of which a search
-// from the front each time would go past more; `factor` is kept from the last gain for the next.
+// The links before `at` are known to stand before `key`; `steps` counts the links gone past for all keys so far, and a search from
+// the front for each would count more; `factor` is kept from the last gain for the next.
 #[derive(Clone, Copy)]
 pub(crate) struct Walk {
     pub(crate) at: usize,
